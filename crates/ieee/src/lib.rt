@@ -1,4 +1,8 @@
 // IEEE 754 binary64 as the optimiser uses it: every function has a result for every input.
+pub mod bits;
+pub mod root;
+pub mod whole;
+
 ghost use mathlib.Core.Path.{_≡_};
 ghost use Rattle.ieee.specs.Basic.{absOf, maxOf, minOf, clampOf, isFinite};
 ghost use Rattle.ieee.specs.Tanh.{tanhOf};

@@ -1,0 +1,141 @@
+-- A finite value is a whole number of the format's smallest values, 2 ^ -low: which numbers the values that fit have, and the root by that number. Assumes nothing.
+use mathlib.Core.Path.{_≡_, refl, sym, ap, _∙_, subst}
+use Prim.Native.Nat.{ℕ, zero, suc, _+_, _-_, _*_, _/_, _%_, _^_, _≤_, _<_}
+use native.Mathlib.Nat.{le-refl, lt-of-lt-of-le, lt-of-le-of-lt, le-of-eq, le-of-suc-le-suc, lt-of-not-le, not-le-of-lt, lt-irrefl, lt-of-mul-lt-mul-right, eq-of-mul-eq-mul-right, zero-mul, mul-one, mul-assoc, mul-comm, mul-div-cancel, mul-lt-mul-of-pos-right}
+use mathlib.Core.Bool.{Bool, true, false, _&&_, true≢false}
+use lib.IntN.{ℤ, pos, negsuc}
+use lib.Dec.{T, leb, ltb, eqb, leb→le, ltb→lt}
+use lib.Pow.{pow-add, pow-pos, pow-lt}
+use lib.Ieee.{Float, nan, inf, fin, Format, prec, emax, low, up, down, odd, units, fits}
+use lib.Ieee.Digits.{back}
+use lib.Ieee.Fits.{down-pos, and-l, and-r, cond-fits, inf-fits, odd-fits}
+use lib.Ieee.Exact.{HasValue}
+use lib.Ieee.Scale.{overflow}
+use Rattle.ieee.specs.Sqrt.{sqrtOf, rootOf, Held}
+
+-- ---- the number of smallest values is one number
+
+one-value : (x : Float) (s : Bool) (a b c : ℕ) → HasValue x s a c → HasValue x s b c → a ≡ b
+one-value nan s a b c h k = absurd h
+one-value (inf t) s a b c h k = absurd h
+one-value (fin t m e) s a b c h k = eq-of-mul-eq-mul-right (down e) (down-pos e) a b (sym (h .1) ∙ k .1)
+
+-- ---- a value that fits is m * 2 ^ j smallest values, with m of at most `prec` digits
+
+-- what `fits` says of an m above zero
+record Fit (f : Format) (m : ℕ) (e : ℤ) : Type 0 where
+  pub short : m < 2 ^ prec f
+  pub fine : down e ≤ 2 ^ low f
+  pub under : m * up e < 2 ^ suc (emax f) * down e
+
+fit : (f : Format) (s : Bool) (m : ℕ) (e : ℤ) → T (fits f (fin s (suc m) e)) → Fit f (suc m) e
+unfolding fits
+fit f s m e t =
+    let a : Bool = eqb (suc m % 2) 1 in
+    let b : Bool = ltb (suc m) (2 ^ prec f) in
+    let c : Bool = leb (down e) (2 ^ low f) in
+    let d : Bool = ltb (suc m * up e) (2 ^ suc (emax f) * down e) in
+    record {
+      short = ltb→lt (suc m) (2 ^ prec f) (and-r a b (and-l (a && b) c (and-l (a && b && c) d t)));
+      fine = leb→le (down e) (2 ^ low f) (and-r (a && b) c (and-l (a && b && c) d t));
+      under = ltb→lt (suc m * up e) (2 ^ suc (emax f) * down e) (and-r (a && b && c) d t);
+    }
+
+-- 2 ^ e is 2 ^ (e + low) smallest values
+abbrev shift : (f : Format) (e : ℤ) → ℕ
+shift f (pos i) = i + low f
+shift f (negsuc i) = low f - suc i
+
+shifted : (f : Format) (m : ℕ) (e : ℤ) → down e ≤ 2 ^ low f → m * up e * 2 ^ low f ≡ m * 2 ^ shift f e * down e
+shifted f m (pos i) h = mul-assoc m (2 ^ i) (2 ^ low f) ∙ ap (λ (x : ℕ). m * x) (sym (pow-add 2 i (low f))) ∙ sym (mul-one (m * 2 ^ (i + low f)))
+shifted f m (negsuc i) h =
+    let l : suc i ≤ low f = le-of-suc-le-suc (lt-of-not-le (λ (g : suc (low f) ≤ suc i). not-le-of-lt (pow-lt g) h)) in
+    ap (λ (x : ℕ). x * 2 ^ low f) (mul-one m)
+    ∙ ap (λ (x : ℕ). m * x) (ap (λ (x : ℕ). 2 ^ x) (sym (back (low f) (suc i) l)) ∙ pow-add 2 (low f - suc i) (suc i))
+    ∙ sym (mul-assoc m (2 ^ (low f - suc i)) (2 ^ suc i))
+
+pub record Grid (f : Format) (x : Float) (s : Bool) : Type 0 where
+  pub m : ℕ
+  pub j : ℕ
+  pub short : m < 2 ^ prec f
+  pub under : m * 2 ^ j < overflow f
+  pub value : HasValue x s (m * 2 ^ j) (2 ^ low f)
+
+pub grid : (f : Format) (s : Bool) (m : ℕ) (e : ℤ) → T (fits f (fin s m e)) → Grid f (fin s m e) s
+grid f s zero e t = record {
+  m = 0;
+  j = 0;
+  short = pow-pos (prec f);
+  under = pow-pos (low f + suc (emax f));
+  value = (refl, ap (λ (x : ℕ). x * 2 ^ low f) (zero-mul (up e)) ∙ zero-mul (2 ^ low f) ∙ sym (zero-mul (down e)));
+}
+grid f s (suc m) e t =
+    let h = fit f s m e t in
+    let j = shift f e in
+    let is = shifted f (suc m) e (h .fine) in
+    record {
+      m = suc m;
+      j = j;
+      short = h .short;
+      under =
+          lt-of-mul-lt-mul-right (down e)
+          (subst (λ (x : ℕ). x < overflow f * down e) is
+          (lt-of-lt-of-le (mul-lt-mul-of-pos-right (h .under) (pow-pos (low f)))
+          (le-of-eq
+          (mul-comm (2 ^ suc (emax f) * down e) (2 ^ low f)
+          ∙ sym (mul-assoc (2 ^ low f) (2 ^ suc (emax f)) (down e))
+          ∙ ap (λ (x : ℕ). x * down e) (sym (pow-add 2 (low f) (suc (emax f))))))));
+      value = (refl, is);
+    }
+
+-- of a number that is known
+pub record Number (f : Format) (a : ℕ) : Type 0 where
+  pub m : ℕ
+  pub j : ℕ
+  pub is : a ≡ m * 2 ^ j
+  pub short : m < 2 ^ prec f
+  pub under : a < overflow f
+
+pub number : (f : Format) (x : Float) (a : ℕ) → Held f x a → Number f a
+number f nan a h = absurd (h .value)
+number f (inf s) a h = absurd (h .value)
+number f (fin s m e) a h =
+    let g = grid f s m e (h .fit) in
+    let is : a ≡ g .m * 2 ^ g .j = one-value (fin s m e) s a (g .m * 2 ^ g .j) (2 ^ low f) (refl, h .value .1) (g .value) in
+    record { m = g .m; j = g .j; is = is; short = g .short; under = subst (λ (y : ℕ). y < overflow f) (sym is) (g .under) }
+
+-- ---- what `units` makes fits
+
+pub units-fits : (f : Format) (q k : ℕ) → q ≤ 2 ^ prec f → q * 2 ^ k < overflow f → T (fits f (units f false q k))
+unfolding units
+units-fits f q k short fine =
+    cond-fits f (ltb (q * 2 ^ k) (overflow f)) (odd (suc (prec f)) false q k (low f)) (inf false)
+    (odd-fits f (suc (prec f)) false q k (lt-of-le-of-lt short (pow-lt (le-refl (suc (prec f))))) short fine)
+    (inf-fits f false)
+
+-- ---- the root of a value with a sign and a number
+
+pub in-units : (f : Format) (m : ℕ) (e : ℤ) (a : ℕ) → m * up e * 2 ^ low f ≡ a * down e → m * up e * 2 ^ low f / down e ≡ a
+in-units f m e a h = ap (λ (x : ℕ). x / down e) h ∙ mul-div-cancel a (down-pos e)
+
+no-more : (u l d a : ℕ) → 0 < d → 0 * u * l ≡ a * d → a ≡ 0
+no-more u l d a D h = eq-of-mul-eq-mul-right d D a 0 (sym h ∙ ap (λ (x : ℕ). x * l) (zero-mul u) ∙ zero-mul l ∙ sym (zero-mul d))
+
+no-zero : (f : Format) (e : ℤ) (a : ℕ) → 0 < a → 0 * up e * 2 ^ low f ≡ a * down e → ⊥
+no-zero f e a p h = lt-irrefl 0 (subst (λ (y : ℕ). 0 < y) (no-more (up e) (2 ^ low f) (down e) a (down-pos e) h) p)
+
+pub sqrt-has : (f : Format) (x : Float) (a : ℕ) → 0 < a → HasValue x false a (2 ^ low f) → sqrtOf f x ≡ rootOf f (a * 2 ^ low f)
+unfolding sqrtOf
+sqrt-has f nan a p h = absurd h
+sqrt-has f (inf s) a p h = absurd h
+sqrt-has f (fin true m e) a p h = absurd (true≢false (h .0))
+sqrt-has f (fin false zero e) a p h = absurd (no-zero f e a p (h .1))
+sqrt-has f (fin false (suc m) e) a p h = ap (λ (n : ℕ). rootOf f (n * 2 ^ low f)) (in-units f (suc m) e a (h .1))
+
+pub sqrt-minus : (f : Format) (x : Float) (a : ℕ) → 0 < a → HasValue x true a (2 ^ low f) → sqrtOf f x ≡ nan
+unfolding sqrtOf
+sqrt-minus f nan a p h = absurd h
+sqrt-minus f (inf s) a p h = absurd h
+sqrt-minus f (fin false m e) a p h = absurd (true≢false (sym (h .0)))
+sqrt-minus f (fin true zero e) a p h = absurd (no-zero f e a p (h .1))
+sqrt-minus f (fin true (suc m) e) a p h = refl
