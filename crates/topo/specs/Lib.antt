@@ -1,0 +1,2 @@
+-- `Levels` has the stiffness levels of mod.rs.
+pub mod Levels
