@@ -1,7 +1,6 @@
 -- 01's proved cases of faces.rs: "(0,0,2) and (0.25,0.25,1) to triangle (0,0,0),(1,0,0),(0,1,0): 4 and 1". Assumes nothing.
 use mathlib.Core.Path.{_≡_, refl}
-use lib.Ieee.{Float, binary64, ofBits, add, sub, mul, div, neg, sum, round, units, odd, size, span, climb, le, lt, eq}
-use lib.Count.{trailingZeros}
+use lib.Ieee.{Float, binary64, ofBits, add, sub, mul, div, neg, sum, round, units, le, lt, eq}
 use Rattle.lists.specs.Lists.{choose, zero64}
 use Rattle.ieee.specs.Basic.{one64}
 use Rattle.geom.specs.Vectors.{vec, plus, less, scaled, dot, len2}

@@ -1,6 +1,6 @@
 -- 01's proved case of `image`: "(2,0,0) in plane x = 0: (−2,0,0)". Assumes nothing.
 use mathlib.Core.Path.{_≡_, refl}
-use lib.Ieee.{Float, binary64, ofBits, add, sub, mul, neg, sum, round, units}
+use lib.Ieee.{ofBits, add, sub, mul, neg, sum, round, units}
 use Rattle.lists.specs.Lists.{zero64}
 use Rattle.ieee.specs.Basic.{one64}
 use Rattle.geom.specs.Vectors.{vec, less, scaled, dot, two64, image}

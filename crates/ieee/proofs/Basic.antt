@@ -1,20 +1,20 @@
 -- The cases of `specs/Basic.antt`, from the comparisons that the code makes. Assumes nothing.
 use mathlib.Core.Path.{_≡_, refl, sym, ap, _∙_, subst}
-use Prim.Native.Nat.{ℕ, zero, suc, _+_, _*_, _^_, _≤_, _<_}
+use Prim.Native.Nat.{ℕ, zero, suc, _+_, _*_, _<_}
 use native.Mathlib.Nat.{eq-zero-or-pos, mul-pos}
 use native.Mathlib.Omega.{arith}
-use mathlib.Core.Bool.{Bool, true, false, not, _&&_, _||_, true≢false}
+use mathlib.Core.Bool.{Bool, true, false, _&&_, _||_, true≢false}
 use mathlib.Core.Logic.{⊎-elim}
 use lib.IntN.{ℤ, pos, negsuc}
-use lib.Dec.{T, ltb, eqb, eqb→eq, ltb→lt, lt→ltb}
-use lib.Pow.{pow-pos, pow-mono}
-use lib.Ieee.{Float, nan, inf, fin, Format, binary64, up, down, neg, lt, eq, ne, isNan, fits, ofBits, div}
+use lib.Dec.{T, eqb, eqb→eq, ltb→lt, lt→ltb}
+use lib.Pow.{pow-mono}
+use lib.Ieee.{Float, nan, inf, fin, binary64, up, down, neg, lt, eq, ne, isNan, fits, ofBits, div}
 use lib.Ieee.Fits.{up-pos, and-i, and-l, eq→eqb}
 use lib.Ieee.Bits.{is-true}
 use lib.Ieee.Compare.{differs-from-itself, nan-differs}
 use Rattle.lists.specs.Lists.{choose, zero64}
 use Rattle.lists.proofs.Laws.{choose-true, choose-false}
-use Rattle.ieee.specs.Basic.{one64, absOf, maxOf, minOf, clampOf, isFinite}
+use Rattle.ieee.specs.Basic.{one64, absOf, isFinite}
 
 -- ---- two kinds of contradiction
 no : {X : Type 0} → false ≡ true → X

@@ -1,7 +1,7 @@
 -- The continued fraction one step further, and the law that `tanh` is odd. Assumes nothing.
-use mathlib.Core.Path.{_≡_, refl, sym, ap, _∙_}
+use mathlib.Core.Path.{_≡_, sym, ap, _∙_}
 use Prim.Native.Nat.{ℕ, _+_, _-_, _*_}
-use lib.Ieee.{Float, binary64, add, mul, div, neg, ofInt, ofBits}
+use lib.Ieee.{Float, binary64, add, mul, div, neg}
 use Rattle.lists.specs.Lists.{foldTo}
 use Rattle.lists.proofs.Laws.{foldTo-none, foldTo-more}
 use Rattle.ieee.specs.Tanh.{whole64, lambert, tanhOf}

@@ -5,6 +5,7 @@ pub mod Order
 pub mod Comparing
 pub mod Sign
 pub mod Basic
+pub mod Bounds
 pub mod Lambert
 pub mod Sqrt
 pub mod Floor

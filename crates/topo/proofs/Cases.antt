@@ -1,6 +1,6 @@
 -- 01's proved cases of mod.rs: "levels of 0.5, −3, 7: 500, 0, 1000"; and that a not-a-number gives level 0. Assumes nothing.
 use mathlib.Core.Path.{_≡_, refl}
-use lib.Ieee.{Float, nan, binary64, ofBits, ofInt, neg, mul, round, units, lt}
+use lib.Ieee.{nan, binary64, ofBits, ofInt, neg, mul, round, units, lt}
 use Rattle.lists.specs.Lists.{choose}
 use Rattle.ieee.specs.Basic.{clampOf}
 use Rattle.ieee.specs.Tanh.{whole64}

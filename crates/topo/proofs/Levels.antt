@@ -1,11 +1,10 @@
 -- No level is above 1000: a clamped density times 1000 is at most 1000, since rounding keeps the order. Assumes nothing.
-use mathlib.Core.Path.{_≡_, refl, sym, ap, _∙_, subst}
-use Prim.Native.Nat.{ℕ, zero, suc, _+_, _*_, _^_, _≤_, _<_}
+use mathlib.Core.Path.{_≡_, refl}
+use Prim.Native.Nat.{ℕ, zero, suc, _+_, _*_, _^_, _≤_}
 use native.Mathlib.Nat.{le-trans, le-of-eq}
 use native.Mathlib.Omega.{arith}
 use mathlib.Core.Bool.{Bool, true, false, cond, true≢false}
-use lib.IntN.{ℤ, pos}
-use lib.Dec.{T, ltb, lit≤}
+use lib.Dec.{ltb, lit≤}
 use borrow.Author.Tests.{ltb-false}
 use lib.Ieee.{Float, nan, inf, fin, Format, binary64, up, down, low, emax, prec, odd, units, round, mul, lt, ofBits, ofInt}
 use lib.Ieee.Fits.{down-pos}

@@ -1,8 +1,8 @@
 -- `faces::dist2_to_triangle` meets its contract. What is known at the three places where all dots of a vertex are worked out is gathered
 -- first; each return then says which region it is (`proofs/Regions.antt`). Assumes nothing.
 use borrow.Author.Needs.{needs}
-use mathlib.Core.Path.{_≡_, refl, sym, ap, _∙_}
-use mathlib.Core.Bool.{Bool, true, false, _&&_}
+use mathlib.Core.Path.{_≡_, sym, ap, _∙_}
+use mathlib.Core.Bool.{false, _&&_}
 use lib.Ieee.{Float, binary64, add, sub, mul, div, le}
 use Rattle.lists.specs.Lists.{zero64}
 use Rattle.geom.specs.declared.Vec3.{Vec3}
