@@ -1,0 +1,118 @@
+//! Times the proved library and the Rust original on the same inputs, in one process.
+//!
+//!     bench [REPETITIONS]
+//!
+//! Prints nanoseconds a call for each side and their ratio, ours by the Rust's: below 1 is faster. Each repetition times both sides
+//! one after the other, and the best of all repetitions counts. A line "list" is one call of the library for the whole list, beside
+//! the Rust's loop as the compiler makes it; a line "calls" is one call for each element on both sides.
+use std::hint::black_box;
+use std::time::Instant;
+
+use sokdrib::{faces, geom, ieee};
+use tenon::stand_ins;
+
+/// How many inputs a list has: all of them fit the nearest cache.
+const INPUTS: usize = 1024;
+/// How often a list is gone through in one timing.
+const ROUNDS: usize = 100;
+
+/// Numbers from 0 to below 1, the same on every machine.
+struct Random(u64);
+
+impl Random {
+    fn unit(&mut self) -> f64 {
+        self.0 ^= self.0 << 13;
+        self.0 ^= self.0 >> 7;
+        self.0 ^= self.0 << 17;
+        (self.0 >> 11) as f64 / (1u64 << 53) as f64
+    }
+
+    fn list<const N: usize>(&mut self, low: f64, high: f64) -> Vec<[f64; N]> {
+        (0..INPUTS).map(|_| std::array::from_fn(|_| low + (high - low) * self.unit())).collect()
+    }
+}
+
+/// Nanoseconds a call of going through the list once more.
+fn time(pass: &mut impl FnMut(&mut [f64]), out: &mut [f64]) -> f64 {
+    let began = Instant::now();
+    for _ in 0..ROUNDS {
+        pass(black_box(out));
+    }
+    began.elapsed().as_secs_f64() * 1e9 / (ROUNDS * INPUTS) as f64
+}
+
+fn line(name: &str, repetitions: usize, mut ours: impl FnMut(&mut [f64]), mut rust: impl FnMut(&mut [f64])) {
+    let mut out = vec![0.0; INPUTS];
+    let mut best = (f64::INFINITY, f64::INFINITY);
+    for _ in 0..repetitions {
+        best = (best.0.min(time(&mut ours, &mut out)), best.1.min(time(&mut rust, &mut out)));
+    }
+    println!("{name:<26} {:>8.2} ns {:>8.2} ns {:>7.2}", best.0, best.1, best.0 / best.1);
+}
+
+/// A pass that calls `f` for each element of `inputs`.
+fn each<I: Copy>(inputs: &[I], f: impl Fn(I) -> f64) -> impl FnMut(&mut [f64]) {
+    move |out| black_box(inputs).iter().zip(out).for_each(|(x, o)| *o = f(*x))
+}
+
+/// The Rust's functions kept out of line, for the lines "calls".
+#[inline(never)]
+fn sqrt(x: f64) -> f64 {
+    x.sqrt()
+}
+
+#[inline(never)]
+fn tanh(z: f64) -> f64 {
+    stand_ins::tanh(z)
+}
+
+#[inline(never)]
+fn dist2(p: tenon::Vec3, a: tenon::Vec3, b: tenon::Vec3, c: tenon::Vec3) -> f64 {
+    tenon::faces::dist2_to_triangle(p, a, b, c)
+}
+
+/// A point and three corners in a row, as the Rust takes them.
+fn rust(v: [f64; 12]) -> [tenon::Vec3; 4] {
+    std::array::from_fn(|i| tenon::Vec3::new(v[3 * i], v[3 * i + 1], v[3 * i + 2]))
+}
+
+fn ours(v: [f64; 12]) -> [geom::Vec3; 4] {
+    std::array::from_fn(|i| geom::Vec3 { x: v[3 * i], y: v[3 * i + 1], z: v[3 * i + 2] })
+}
+
+fn main() {
+    let repetitions = std::env::args().nth(1).map_or(Some(30), |word| word.parse().ok().filter(|n| *n > 0));
+    let Some(repetitions) = repetitions else {
+        eprintln!("usage: bench [REPETITIONS]");
+        std::process::exit(2);
+    };
+    let mut random = Random(0x9e37_79b9_7f4a_7c15);
+    println!("{:<26} {:>11} {:>11} {:>7}", "best of each side", "ours", "Rust", "ratio");
+
+    let xs: Vec<f64> = random.list::<1>(0.0, 1e6).into_iter().flatten().collect();
+    line("sqrt, list", repetitions, |out| ieee::root::sqrt_each(black_box(&xs), out), each(&xs, f64::sqrt));
+    line("sqrt, calls", repetitions, each(&xs, ieee::root::sqrt), each(&xs, sqrt));
+
+    let zs: Vec<f64> = random.list::<1>(-8.0, 8.0).into_iter().flatten().collect();
+    line("tanh, list", repetitions, |out| ieee::tanh_each(black_box(&zs), out), each(&zs, stand_ins::tanh));
+    line("tanh, calls", repetitions, each(&zs, ieee::tanh), each(&zs, tanh));
+
+    let points = random.list::<3>(-2.0, 2.0);
+    let corners = random.list::<9>(-1.0, 1.0);
+    let both: Vec<[f64; 12]> =
+        points.iter().zip(&corners).map(|(p, t)| std::array::from_fn(|i| if i < 3 { p[i] } else { t[i - 3] })).collect();
+    let rust_inline = each(&both, |v| {
+        let [p, a, b, c] = rust(v);
+        tenon::faces::dist2_to_triangle(p, a, b, c)
+    });
+    let rust_calls = each(&both, |v| {
+        let [p, a, b, c] = rust(v);
+        dist2(p, a, b, c)
+    });
+    let our_calls = each(&both, |v| {
+        let [p, a, b, c] = ours(v);
+        faces::dist2_to_triangle(p, a, b, c)
+    });
+    line("dist2_to_triangle, list", repetitions, |out| faces::dist2_each(black_box(&points), black_box(&corners), out), rust_inline);
+    line("dist2_to_triangle, calls", repetitions, our_calls, rust_calls);
+}

@@ -1,0 +1,41 @@
+//! Runs the proved library and the Rust original on the same inputs and compares what they give, bit by bit.
+//!
+//!     differential [--cases N] [--long] [--seed S]
+//!
+//! Prints a line for each function: how many cases, how many differences, and the inputs of the first few as bits. Ends with
+//! status 1 where there are any. `--cases` is how many random inputs each function gets beside its edges; `--long` means
+//! twenty times as many.
+mod compare;
+mod inputs;
+mod leaves;
+
+use std::process::ExitCode;
+
+use compare::Run;
+
+const CASES: usize = 1_000_000;
+const LONG: usize = 20 * CASES;
+
+fn options() -> Option<(usize, u64)> {
+    let (mut cases, mut seed) = (CASES, 1);
+    let mut words = std::env::args().skip(1);
+    while let Some(word) = words.next() {
+        match word.as_str() {
+            "--cases" => cases = words.next()?.parse().ok()?,
+            "--long" => cases = LONG,
+            "--seed" => seed = words.next()?.parse().ok()?,
+            _ => return None,
+        }
+    }
+    Some((cases, seed))
+}
+
+fn main() -> ExitCode {
+    let Some((cases, seed)) = options() else {
+        eprintln!("usage: differential [--cases N] [--long] [--seed S]");
+        return ExitCode::from(2);
+    };
+    let mut run = Run::new(cases, seed);
+    leaves::all(&mut run);
+    if run.close() { ExitCode::SUCCESS } else { ExitCode::FAILURE }
+}
