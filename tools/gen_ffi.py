@@ -210,6 +210,9 @@ def header(functions):
             base, dimensions = inner(kind)
             out.append(f"    {c_type(base)} {c_name(field)}{dimensions};")
         out += [f"}} {c_type(name)};", ""]
+    out += ["#if !defined(__cplusplus) && __STDC_VERSION__ >= 201112L"]
+    out += [f'_Static_assert(sizeof({c_type(name)}) == {layout(name)[0]}, "{c_type(name)}");' for name in in_order(functions)]
+    out += ["#endif", ""]
     for name, comment, parameters, result in functions:
         given = [p for n, kind in parameters for p in c_parameter(n, kind)] or ["void"]
         out += c_comment(comment) + declared(f"{c_type(result) if result else 'void'} {name}", given, ";") + [""]

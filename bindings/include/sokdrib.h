@@ -23,6 +23,11 @@ typedef struct {
     SokdribVec3 normal;
 } SokdribMirror;
 
+#if !defined(__cplusplus) && __STDC_VERSION__ >= 201112L
+_Static_assert(sizeof(SokdribVec3) == 24, "SokdribVec3");
+_Static_assert(sizeof(SokdribMirror) == 48, "SokdribMirror");
+#endif
+
 /* The size of x. */
 double sokdrib_abs(double x);
 
@@ -109,7 +114,7 @@ void sokdrib_sqrt_each(const double *xs, size_t xs_len, double *out, size_t out_
 /* The hyperbolic tangent of each of zs, as far as both lists go; the rest of out stays as lent. */
 void sokdrib_tanh_each(const double *zs, size_t zs_len, double *out, size_t out_len);
 
-/* The square of the distance from each point to the triangle at the same place, three corners in a row, as far as all three lists go;
+/* The square of the distance from each point to the triangle at the same place, its corners in a row, as far as all three lists go;
  * the rest of out stays as lent. */
 void sokdrib_dist2_each(
     const double (*points)[3],

@@ -74,7 +74,7 @@ unsafe extern "C" {
     pub unsafe fn sokdrib_sqrt_each(xs: *const f64, xs_len: usize, out: *mut f64, out_len: usize);
     /// The hyperbolic tangent of each of zs, as far as both lists go; the rest of out stays as lent.
     pub unsafe fn sokdrib_tanh_each(zs: *const f64, zs_len: usize, out: *mut f64, out_len: usize);
-    /// The square of the distance from each point to the triangle at the same place, three corners in a row, as far as all three lists go;
+    /// The square of the distance from each point to the triangle at the same place, its corners in a row, as far as all three lists go;
     /// the rest of out stays as lent.
     pub unsafe fn sokdrib_dist2_each(
         points: *const [f64; 3],

@@ -96,9 +96,11 @@ pub mod study {
 /// 01: "Lambert's continued fraction worked from the inside: r = 63, then for k = 61, 59, .. 1: r = k + (z·z)/r, each operation
 /// rounded once, and the answer is z/r."
 pub fn tanh(z: f64) -> f64 {
-    let mut r = 63.0;
-    for k in (1..=61).rev().step_by(2) {
-        r = f64::from(k) + (z * z) / r;
+    let zz = z * z;
+    let (mut r, mut k) = (63.0, 61.0);
+    while k > 0.0 {
+        r = k + zz / r;
+        k -= 2.0;
     }
     z / r
 }

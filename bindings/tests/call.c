@@ -1,0 +1,17 @@
+/* A C program over the library: status 0 where it gives what it should. */
+#include "sokdrib.h"
+
+int main(void) {
+    SokdribVec3 p = {0.25, 0.25, 1.0}, a = {0.0, 0.0, 0.0}, b = {1.0, 0.0, 0.0}, c = {0.0, 1.0, 0.0};
+    SokdribMirror mirror = {{0.0, 0.0, 0.0}, {1.0, 0.0, 0.0}};
+    double xs[2] = {4.0, 16.0}, out[3] = {9.0, 9.0, 9.0};
+    if (sokdrib_sqrt(2.25) != 1.5) return 1;
+    if (sokdrib_dist2_to_triangle(p, a, b, c) != 1.0) return 2;
+    if (sokdrib_mirror_image(mirror, sokdrib_vec3_new(2.0, 0.0, 0.0)).x != -2.0) return 3;
+    if (sokdrib_level_of(0.5) != 500) return 4;
+    sokdrib_sqrt_each(xs, 2, out, 3);
+    if (out[0] != 2.0 || out[1] != 4.0 || out[2] != 9.0) return 5;
+    sokdrib_sqrt_each(NULL, 0, out, 3);
+    if (out[0] != 2.0) return 6;
+    return sokdrib_is_finite(1.0) && !sokdrib_is_finite(1.0 / 0.0) ? 0 : 7;
+}
