@@ -1,0 +1,2 @@
+-- `Each` has what the exports over lists give at each place.
+pub mod Each
