@@ -1,0 +1,234 @@
+// The filter's table, a sparse matrix by rows in three lent lists, and the two products with it (`apply` and `back` of filter.rs).
+// Lists may be lent longer than the rows use. Where `well` finds a table well formed, the products run without tests.
+ghost use mathlib.Core.Path.{_≡_};
+ghost use Prim.Native.Nat.{_+_, _≤_, _<_};
+ghost use lib.ListN.{length, getD, set};
+ghost use lib.Dec.{ltb, leb};
+ghost use lib.Ieee.{nan, binary64, add};
+ghost use Rattle.lists.specs.Lists.{tabulate, anyTo, zero64};
+ghost use Rattle.table.specs.Table.{rowEnd, rowSum, applied, rowShare, backed, Within, Wf, wellOf};
+
+// ---- the test
+
+fn falls(starts: &[u32], n: usize) -> bool
+    requires { ⌜ n < length (now starts) ⌝ }
+    ensures { λ r. ⌜ r ≡ anyTo (λ e. ltb (getD (now (starts .entry)) (e + 1) 0) (getD (now (starts .entry)) e 0)) n ⌝ }
+{
+    let mut t = false;
+    let mut e = 0usize;
+    while e < n {
+        t = t | (starts[e + 1usize] < starts[e]);
+        e += 1usize;
+    }
+    t
+}
+
+fn beyond(near: &[u32], end: usize, m: u32) -> bool
+    requires { ⌜ end ≤ length (now near) ⌝ }
+    ensures { λ r. ⌜ r ≡ anyTo (λ k. leb m (getD (now (near .entry)) k 0)) end ⌝ }
+{
+    let mut t = false;
+    let mut k = 0usize;
+    while k < end {
+        t = t | (m <= near[k]);
+        k += 1usize;
+    }
+    t
+}
+
+// Whether the table is well formed for n rows over m columns. It looks only at what the rows use, with no way out of its loops.
+pub fn well(starts: &[u32], near: &[u32], coef: &[f64], n: usize, m: usize) -> bool
+    ensures { λ r. ⌜ r ≡ wellOf (now (starts .entry)) (now (near .entry)) (now (coef .entry)) n m ⌝ }
+{
+    if n < starts.len() {
+        let end = starts[n] as usize;
+        if (end <= near.len()) & (end <= coef.len()) {
+            // Columns are compared as 32 bits, twice as many at a time. From 2^32 on, m is above them all.
+            if m < 4294967296usize {
+                return !falls(starts, n) & !beyond(near, end, m as u32);
+            }
+            return !falls(starts, n);
+        }
+    }
+    false
+}
+
+// ---- without tests
+
+fn row(near: &[u32], coef: &[f64], x: &[f64], from: usize, to: usize) -> f64
+    requires { ⌜ Within (now near) (now coef) from to (length (now x)) ⌝ }
+    ensures { λ r. ⌜ r ≡ rowSum (now (near .entry)) (now (coef .entry)) (now (x .entry)) from to ⌝ }
+{
+    let mut t = 0.0;
+    let mut k = from;
+    while k < to {
+        let j = near[k] as usize;
+        t = t + coef[k] * x[j];
+        k += 1usize;
+    }
+    t
+}
+
+// Internal: `apply` for a caller that has asked `well` once.
+pub fn apply_well(starts: &[u32], near: &[u32], coef: &[f64], x: &[f64], out: &mut [f64])
+    requires { ⌜ Wf (now starts) (now near) (now coef) (length (now out)) (length (now x)) ⌝ }
+    ensures { λ _. ⌜ now (out .exit) ≡ applied (now (starts .entry)) (now (near .entry)) (now (coef .entry)) (now (x .entry)) (length (now (out .entry))) ⌝ }
+{
+    let mut e = 0usize;
+    while e < out.len() {
+        let from = starts[e] as usize;
+        let to = starts[e + 1usize] as usize;
+        let s = row(near, coef, x, from, to);
+        out[e] = s;
+        e += 1usize;
+    }
+}
+
+fn clear(out: &mut [f64])
+    ensures { λ _. ⌜ now (out .exit) ≡ tabulate (λ k. zero64) (length (now (out .entry))) ⌝ }
+{
+    let mut i = 0usize;
+    while i < out.len() {
+        out[i] = 0.0;
+        i += 1usize;
+    }
+}
+
+fn share(near: &[u32], coef: &[f64], v: f64, from: usize, to: usize, out: &mut [f64])
+    requires { ⌜ Within (now near) (now coef) from to (length (now out)) ⌝ }
+    ensures { λ _. ⌜ now (out .exit) ≡ rowShare (now (near .entry)) (now (coef .entry)) v from to (now (out .entry)) ⌝ }
+{
+    let mut k = from;
+    while k < to {
+        let j = near[k] as usize;
+        out[j] = out[j] + coef[k] * v;
+        k += 1usize;
+    }
+}
+
+// Internal: `back` for a caller that has asked `well` once.
+pub fn back_well(starts: &[u32], near: &[u32], coef: &[f64], g: &[f64], out: &mut [f64])
+    requires { ⌜ Wf (now starts) (now near) (now coef) (length (now g)) (length (now out)) ⌝ }
+    ensures { λ _. ⌜ now (out .exit) ≡ backed (now (starts .entry)) (now (near .entry)) (now (coef .entry)) (now (g .entry)) (length (now (g .entry))) (length (now (out .entry))) ⌝ }
+{
+    clear(out);
+    let mut e = 0usize;
+    while e < g.len() {
+        let from = starts[e] as usize;
+        let to = starts[e + 1usize] as usize;
+        share(near, coef, g[e], from, to, out);
+        e += 1usize;
+    }
+}
+
+// ---- with tests, for any contents
+
+fn start_at(starts: &[u32], e: usize) -> usize
+    ensures { λ r. ⌜ r ≡ getD (now (starts .entry)) e 0 ⌝ }
+{
+    if e < starts.len() {
+        starts[e] as usize
+    } else {
+        0
+    }
+}
+
+fn row_end(near: &[u32], coef: &[f64], from: usize, to: usize) -> usize
+    ensures { λ r. ⌜ r ≡ rowEnd (now (near .entry)) (now (coef .entry)) from to ⌝ }
+{
+    if (from <= to) & (to <= near.len()) & (to <= coef.len()) {
+        to
+    } else {
+        from
+    }
+}
+
+fn at(x: &[f64], j: usize) -> f64
+    ensures { λ r. ⌜ r ≡ getD (now (x .entry)) j zero64 ⌝ }
+{
+    if j < x.len() { x[j] } else { 0.0 }
+}
+
+fn row_tested(near: &[u32], coef: &[f64], x: &[f64], from: usize, to: usize) -> f64
+    ensures { λ r. ⌜ r ≡ rowSum (now (near .entry)) (now (coef .entry)) (now (x .entry)) from to ⌝ }
+{
+    let end = row_end(near, coef, from, to);
+    let mut t = 0.0;
+    let mut k = from;
+    while k < end {
+        let j = near[k] as usize;
+        t = t + coef[k] * at(x, j);
+        k += 1usize;
+    }
+    t
+}
+
+fn apply_tested(starts: &[u32], near: &[u32], coef: &[f64], x: &[f64], out: &mut [f64])
+    ensures { λ _. ⌜ now (out .exit) ≡ applied (now (starts .entry)) (now (near .entry)) (now (coef .entry)) (now (x .entry)) (length (now (out .entry))) ⌝ }
+{
+    let mut e = 0usize;
+    while e < out.len() {
+        let from = start_at(starts, e);
+        let to = start_at(starts, e + 1usize);
+        let s = row_tested(near, coef, x, from, to);
+        out[e] = s;
+        e += 1usize;
+    }
+}
+
+fn add_to(out: &mut [f64], j: usize, v: f64)
+    ensures { λ _. ⌜ now (out .exit) ≡ set (now (out .entry)) j (add binary64 (getD (now (out .entry)) j nan) v) ⌝ }
+{
+    if j < out.len() {
+        out[j] = out[j] + v;
+    }
+}
+
+fn share_tested(near: &[u32], coef: &[f64], v: f64, from: usize, to: usize, out: &mut [f64])
+    ensures { λ _. ⌜ now (out .exit) ≡ rowShare (now (near .entry)) (now (coef .entry)) v from to (now (out .entry)) ⌝ }
+{
+    let end = row_end(near, coef, from, to);
+    let mut k = from;
+    while k < end {
+        let j = near[k] as usize;
+        add_to(out, j, coef[k] * v);
+        k += 1usize;
+    }
+}
+
+fn back_tested(starts: &[u32], near: &[u32], coef: &[f64], g: &[f64], out: &mut [f64])
+    ensures { λ _. ⌜ now (out .exit) ≡ backed (now (starts .entry)) (now (near .entry)) (now (coef .entry)) (now (g .entry)) (length (now (g .entry))) (length (now (out .entry))) ⌝ }
+{
+    clear(out);
+    let mut e = 0usize;
+    while e < g.len() {
+        let from = start_at(starts, e);
+        let to = start_at(starts, e + 1usize);
+        share_tested(near, coef, g[e], from, to, out);
+        e += 1usize;
+    }
+}
+
+// ---- the two products
+
+// The densities `x` seen through the filter, one row for each place of `out`.
+pub fn apply(starts: &[u32], near: &[u32], coef: &[f64], x: &[f64], out: &mut [f64])
+    ensures { λ _. ⌜ now (out .exit) ≡ applied (now (starts .entry)) (now (near .entry)) (now (coef .entry)) (now (x .entry)) (length (now (out .entry))) ⌝ }
+{
+    if well(starts, near, coef, out.len(), x.len()) {
+        apply_well(starts, near, coef, x, out);
+    } else {
+        apply_tested(starts, near, coef, x, out);
+    }
+}
+
+// Slopes against the filtered densities carried back to the densities: the transposed product, one row for each place of `g`.
+pub fn back(starts: &[u32], near: &[u32], coef: &[f64], g: &[f64], out: &mut [f64])
+    ensures { λ _. ⌜ now (out .exit) ≡ backed (now (starts .entry)) (now (near .entry)) (now (coef .entry)) (now (g .entry)) (length (now (g .entry))) (length (now (out .entry))) ⌝ }
+{
+    if well(starts, near, coef, g.len(), out.len()) {
+        back_well(starts, near, coef, g, out);
+    } else {
+        back_tested(starts, near, coef, g, out);
+    }
+}
