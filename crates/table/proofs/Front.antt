@@ -1,6 +1,6 @@
 -- The products depend only on what the rows use: a well formed table and one that begins with the same n + 1 starts and the same places have
 -- the same products, so lists may be lent longer. Row by row, by the agreement of folds. Assumes nothing.
-use mathlib.Core.Path.{_≡_, refl, sym, ap, _∙_}
+use mathlib.Core.Path.{_≡_, refl, ap, _∙_}
 use mathlib.Core.List.{List, _++_}
 use Prim.Native.Nat.{ℕ, zero, suc, _+_, _-_, _≤_, _<_}
 use native.Mathlib.Omega.{arith}
@@ -8,7 +8,7 @@ use lib.ListN.{length, getD, take, length-append, List·getD-append}
 use lib.Seq.{getD-take, length-take-le}
 use lib.Ieee.{Float, nan, binary64, add}
 use Rattle.lists.specs.Lists.{foldTo, foldOver, sumOver, zero64}
-use Rattle.table.specs.Table.{rowEnd, product, rowSum, applied, addTo, rowShare, backed, Within, Wf}
+use Rattle.table.specs.Table.{rowEnd, product, rowSum, applied, addTo, rowShare, backed, Wf}
 use Rattle.table.proofs.Laws.{tabulate-same, rowEnd-within, wf-row, rises}
 
 -- two ways to change a state that agree at the indices passed
