@@ -1,0 +1,17 @@
+// One round's arithmetic: oc.rs without its loop.
+// Lists have one place an element. A function that writes a list asks that those it reads are as long; one that only reads goes as far as
+// the shortest, as Rust's `zip` does.
+pub mod kept;
+pub mod record;
+pub mod seen;
+pub mod slopes;
+pub mod start;
+
+ghost use mathlib.Core.Path.{_≡_};
+ghost use Prim.Native.Nat.{min};
+
+fn shorter(a: usize, b: usize) -> usize
+    ensures { λ r. ⌜ r ≡ min a b ⌝ }
+{
+    if a < b { a } else { b }
+}
