@@ -1,0 +1,2 @@
+-- `Laws` has a law of lists.
+mod Laws

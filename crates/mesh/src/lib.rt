@@ -1,0 +1,202 @@
+// A mesh of ten-node tetrahedra: volumes, middles and size (mesh.rs), and what the optimiser works on (region.rs, `design`).
+ghost use mathlib.Core.Path.{_≡_};
+ghost use lib.ListN.{length, getD};
+ghost use Rattle.mesh.specs.Mesh as Mesh;
+use geom::Vec3;
+
+// A lent point. Internal: for `block` too.
+pub fn point(p: [f64; 3]) -> Vec3
+    ensures { λ r. ⌜ r ≡ Mesh.point p ⌝ }
+{
+    Vec3 {
+        x: p[0],
+        y: p[1],
+        z: p[2],
+    }
+}
+
+fn origin() -> Vec3
+    ensures { λ r. ⌜ r ≡ Mesh.origin ⌝ }
+{
+    Vec3::new(0.0, 0.0, 0.0)
+}
+
+// Node n; one that is not there is the origin.
+fn node(nodes: &[[f64; 3]], n: u32) -> Vec3
+    ensures { λ r. ⌜ r ≡ Mesh.nodeAt (now (nodes .entry)) n ⌝ }
+{
+    let i = n as usize;
+    if i < nodes.len() {
+        return point(nodes[i]);
+    }
+    origin()
+}
+
+// How a point of the rule moves with the weight w of the corner c.
+fn moves(c: Vec3, w: f64, m1: Vec3, w1: f64, m2: Vec3, w2: f64, m3: Vec3, w3: f64) -> Vec3
+    ensures { λ r. ⌜ r ≡ Mesh.moves c w m1 w1 m2 w2 m3 w3 ⌝ }
+{
+    c.scale(4.0 * w - 1.0)
+        .add(m1.scale(4.0 * w1))
+        .add(m2.scale(4.0 * w2))
+        .add(m3.scale(4.0 * w3))
+}
+
+// dot(d1 - d0, cross(d2 - d0, d3 - d0)). Internal: for `block` too.
+pub fn triple(d0: Vec3, d1: Vec3, d2: Vec3, d3: Vec3) -> f64
+    ensures { λ r. ⌜ r ≡ Mesh.triple d0 d1 d2 d3 ⌝ }
+{
+    d1.sub(d0).dot(d2.sub(d0).cross(d3.sub(d0)))
+}
+
+// The ten nodes of a tetrahedron.
+struct Ten {
+    p0: Vec3,
+    p1: Vec3,
+    p2: Vec3,
+    p3: Vec3,
+    p4: Vec3,
+    p5: Vec3,
+    p6: Vec3,
+    p7: Vec3,
+    p8: Vec3,
+    p9: Vec3,
+}
+
+fn nodes_of(nodes: &[[f64; 3]], t: [u32; 10]) -> Ten
+    ensures { λ r. ⌜ r ≡ Mesh.tenOf (now (nodes .entry)) t ⌝ }
+{
+    Ten {
+        p0: node(nodes, t[0]),
+        p1: node(nodes, t[1]),
+        p2: node(nodes, t[2]),
+        p3: node(nodes, t[3]),
+        p4: node(nodes, t[4]),
+        p5: node(nodes, t[5]),
+        p6: node(nodes, t[6]),
+        p7: node(nodes, t[7]),
+        p8: node(nodes, t[8]),
+        p9: node(nodes, t[9]),
+    }
+}
+
+// The share of one point of the rule, at which the corners weigh w0 to w3.
+fn share(t: Ten, w0: f64, w1: f64, w2: f64, w3: f64) -> f64
+    ensures { λ r. ⌜ r ≡ Mesh.shareAt t w0 w1 w2 w3 ⌝ }
+{
+    let d0 = moves(t.p0, w0, t.p4, w1, t.p6, w2, t.p7, w3);
+    let d1 = moves(t.p1, w1, t.p4, w0, t.p5, w2, t.p9, w3);
+    let d2 = moves(t.p2, w2, t.p5, w1, t.p6, w0, t.p8, w3);
+    let d3 = moves(t.p3, w3, t.p7, w0, t.p8, w2, t.p9, w1);
+    triple(d0, d1, d2, d3) / 24.0
+}
+
+// The volume of a tetrahedron, curved as its mid-side nodes make it: the four-point rule on the second-order element.
+pub fn volume(nodes: &[[f64; 3]], tet: [u32; 10]) -> f64
+    ensures { λ r. ⌜ r ≡ Mesh.volumeOf (now (nodes .entry)) tet ⌝ }
+{
+    let a = 0.585410196624969;
+    let b = 0.138196601125011;
+    let t = nodes_of(nodes, tet);
+    ieee::abs(
+        share(t, a, b, b, b) + share(t, b, a, b, b) + share(t, b, b, a, b) + share(t, b, b, b, a),
+    )
+}
+
+// The volume of the straight tetrahedron between the corners.
+pub fn corner_volume(nodes: &[[f64; 3]], tet: [u32; 10]) -> f64
+    ensures { λ r. ⌜ r ≡ Mesh.cornerVolumeOf (now (nodes .entry)) tet ⌝ }
+{
+    let a = node(nodes, tet[0]);
+    let b = node(nodes, tet[1]);
+    let c = node(nodes, tet[2]);
+    let d = node(nodes, tet[3]);
+    ieee::abs(triple(a, b, c, d) / 6.0)
+}
+
+// The middle of a tetrahedron: the mean of its corners.
+pub fn centroid(nodes: &[[f64; 3]], tet: [u32; 10]) -> Vec3
+    ensures { λ r. ⌜ r ≡ Mesh.centroidOf (now (nodes .entry)) tet ⌝ }
+{
+    let a = node(nodes, tet[0]);
+    let b = node(nodes, tet[1]);
+    let c = node(nodes, tet[2]);
+    let d = node(nodes, tet[3]);
+    origin().add(a).add(b).add(c).add(d).scale(0.25)
+}
+
+// The size of the box that the nodes fit in, corner to corner.
+pub fn extent(nodes: &[[f64; 3]]) -> f64
+    ensures { λ r. ⌜ r ≡ Mesh.extentOf (now (nodes .entry)) ⌝ }
+{
+    if nodes.len() == 0 {
+        return 0.0;
+    }
+    let mut lo = point(nodes[0]);
+    let mut hi = lo;
+    let mut i = 0;
+    while i < nodes.len() {
+        let p = point(nodes[i]);
+        lo = lo.min(p);
+        hi = hi.max(p);
+        i += 1;
+    }
+    hi.sub(lo).len()
+}
+
+// Whether a node lies outside the domain. Internal: for `block` too.
+pub fn outside(p: Vec3) -> bool
+    ensures { λ r. ⌜ r ≡ Mesh.nodeOutside p ⌝ }
+{
+    !(ieee::abs(p.x) <= 1000000.0) | !(ieee::abs(p.y) <= 1000000.0) | !(ieee::abs(p.z) <= 1000000.0)
+}
+
+fn any_outside(nodes: &[[f64; 3]]) -> bool
+    ensures { λ r. ⌜ r ≡ Mesh.nodesOutside (now (nodes .entry)) ⌝ }
+{
+    let mut found = false;
+    let mut i = 0;
+    while i < nodes.len() {
+        found = found | outside(point(nodes[i]));
+        i += 1;
+    }
+    found
+}
+
+fn refusal(nodes: &[[f64; 3]], tets: &[[u32; 10]], volumes: usize, middles: usize) -> u32
+    ensures { λ r. ⌜ r ≡ Mesh.designRefusal (now (nodes .entry)) (now (tets .entry)) volumes middles ⌝ }
+{
+    if (65535 < tets.len()) | (1048576 < nodes.len()) {
+        return 3;
+    }
+    if any_outside(nodes) {
+        return 9;
+    }
+    if (volumes < tets.len()) | (middles < tets.len()) {
+        return 14;
+    }
+    0
+}
+
+// Fills in each tetrahedron's volume and middle, and gives 0 or the refusal. Marks are the caller's own list and stay as they are.
+pub fn design(
+    nodes: &[[f64; 3]],
+    tets: &[[u32; 10]],
+    volumes: &mut [f64],
+    middles: &mut [[f64; 3]],
+) -> u32
+    ensures { λ r. ⌜ Mesh.Designed (now (nodes .entry)) (now (tets .entry)) (now (volumes .entry)) (now (volumes .exit)) (now (middles .entry)) (now (middles .exit)) r ⌝ }
+{
+    let r = refusal(nodes, tets, volumes.len(), middles.len());
+    if r > 0 {
+        return r;
+    }
+    let mut i = 0;
+    while i < tets.len() {
+        volumes[i] = volume(nodes, tets[i]);
+        let m = centroid(nodes, tets[i]);
+        middles[i] = [m.x, m.y, m.z];
+        i += 1;
+    }
+    0
+}
