@@ -11,6 +11,7 @@ an array, and slices, which are a pointer and a count of elements. Any other for
 import pathlib
 import re
 import sys
+import textwrap
 
 ROOT = pathlib.Path(__file__).resolve().parent.parent
 HEADER = ROOT / "bindings/include/sokdrib.h"
@@ -69,10 +70,10 @@ def read_structs():
 
 
 def read_functions():
-    """Every export of capi in order: (name, the comment above it, [(parameter, type)], result type or None)."""
+    """Every export of capi in order, lib.rt first: (name, the comment above it, [(parameter, type)], result type or None)."""
     found = []
     shape = r'((?:^//[^\n]*\n)*)^#\[no_mangle\]\s*pub extern "C" fn (\w+)\s*\((.*?)\)\s*(?:->\s*([\w:]+))?\s*(?=requires|ensures|\{)'
-    for file in sorted((ROOT / "crates/capi/src").glob("**/*.rt")):
+    for file in sorted((ROOT / "crates/capi/src").glob("**/*.rt"), key=lambda f: (f.name != "lib.rt", f)):
         text = file.read_text(encoding="utf-8")
         exports = list(re.finditer(shape, text, re.S | re.M))
         if len(exports) != code(text).count("#[no_mangle]"):
@@ -177,7 +178,7 @@ def c_name(name):
 
 
 def c_parameter(name, kind):
-    name, lent = c_name(name), reference(kind)
+    count, name, lent = f"size_t {name}_len", c_name(name), reference(kind)
     if not lent:
         if array(kind):
             fail(f"an array by value: {name}")
@@ -186,9 +187,9 @@ def c_parameter(name, kind):
     const, element = "" if writable else "const ", slice_of(kind)
     base, dimensions = inner(element or kind)
     if element and dimensions:
-        return [f"{const}{c_type(base)} (*{name}){dimensions}", f"size_t {name}_len"]
+        return [f"{const}{c_type(base)} (*{name}){dimensions}", count]
     if element:
-        return [f"{const}{c_type(base)} *{name}", f"size_t {name}_len"]
+        return [f"{const}{c_type(base)} *{name}", count]
     return [f"{const}{c_type(base)} {name}{dimensions}" if dimensions else f"{const}{c_type(base)} *{name}"]
 
 
@@ -231,10 +232,21 @@ def rust_parameter(name, kind):
     return [f"{name}: &{'mut ' if writable else ''}{kind}"]
 
 
+def safe_parameter(name, kind):
+    """What a function over slices takes, and what it hands on."""
+    lent = reference(kind)
+    if lent and slice_of(lent[1]):
+        return f"{name}: {kind}", f"{name}.as_{'mut_' if lent[0] else ''}ptr(), {name}.len()"
+    return f"{name}: {kind}", name
+
+
 def declarations(functions):
     out = [
         "// Written by tools/gen_ffi.py from the sources of crate capi: change those, and run it.",
-        "//! What the library exports. A slice is two parameters, a pointer and a count of elements; the functions with none are safe.",
+        "//! What the library exports, over slices.",
+        "//!",
+        "//! In the library a slice is two parameters, a pointer and a count of elements. Each pair that is handed over here is of a slice that is",
+        "//! borrowed while the call lasts, and what may be written is borrowed as `&mut`, so it overlaps no other.",
         "",
     ]
     for name in in_order(functions):
@@ -242,13 +254,22 @@ def declarations(functions):
         out += ["#[repr(C)]", "#[derive(Clone, Copy, Debug, Default, PartialEq)]", f"pub struct {name} {{"]
         out += [f"    pub {field}: {kind}," for field, kind in STRUCTS[name]]
         out += ["}", f"const _: () = assert!(size_of::<{name}>() == {size} && align_of::<{name}>() == {align});", ""]
-    out.append('unsafe extern "C" {')
+    plain = [name for name, _, parameters, _ in functions if not any("*" in p for n, kind in parameters for p in rust_parameter(n, kind))]
+    out += ["mod library {", f"    use super::{{{', '.join(sorted(in_order(functions)))}}};", "", '    unsafe extern "C" {']
     for name, comment, parameters, result in functions:
         given = [p for n, kind in parameters for p in rust_parameter(n, kind)]
-        safety = "unsafe" if any("*" in p for p in given) else "safe"
-        out += [f"    /// {line}" for line in comment]
-        out += declared(f"    pub {safety} fn {name}", given, f" -> {result};" if result else ";")
-    return "\n".join(out + ["}"]) + "\n"
+        out += [f"        /// {line}" for line in comment if name in plain]
+        out += declared(f"        pub {'safe' if name in plain else 'unsafe'} fn {name}", given, f" -> {result};" if result else ";")
+    names = textwrap.wrap(", ".join(sorted(plain)), WIDTH - 5)
+    out += ["    }", "}", "", "pub use library::{"] + ["    " + line for line in names] + ["};"]
+    for name, comment, parameters, result in functions:
+        if name not in plain:
+            given = [safe_parameter(n, kind) for n, kind in parameters]
+            out += [""] + [f"/// {line}" for line in comment]
+            out += ["#[allow(clippy::too_many_arguments)]"] if len(given) > 7 else []
+            out += declared(f"pub fn {name}", [g for g, _ in given], f" -> {result} {{" if result else " {")
+            out += ["    // SAFETY: see above."] + declared(f"    unsafe {{ library::{name}", [p for _, p in given], " }") + ["}"]
+    return "\n".join(out) + "\n"
 
 
 def main():

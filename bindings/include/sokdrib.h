@@ -23,9 +23,40 @@ typedef struct {
     SokdribVec3 normal;
 } SokdribMirror;
 
+typedef struct {
+    uint32_t refused;
+    double total;
+    double solid;
+    double target;
+    double tolerance;
+    double density;
+} SokdribStart;
+
+typedef struct {
+    double density;
+    double slope;
+} SokdribProjected;
+
+typedef struct {
+    uint32_t refused;
+    double volume;
+} SokdribKept;
+
+typedef struct {
+    uint32_t refused;
+    uint32_t ending;
+    double first;
+    double second;
+    size_t passes;
+} SokdribUpdate;
+
 #if !defined(__cplusplus) && __STDC_VERSION__ >= 201112L
 _Static_assert(sizeof(SokdribVec3) == 24, "SokdribVec3");
 _Static_assert(sizeof(SokdribMirror) == 48, "SokdribMirror");
+_Static_assert(sizeof(SokdribStart) == 48, "SokdribStart");
+_Static_assert(sizeof(SokdribProjected) == 16, "SokdribProjected");
+_Static_assert(sizeof(SokdribKept) == 16, "SokdribKept");
+_Static_assert(sizeof(SokdribUpdate) == 32, "SokdribUpdate");
 #endif
 
 /* The size of x. */
@@ -123,6 +154,185 @@ void sokdrib_dist2_each(
     size_t triangles_len,
     double *out,
     size_t out_len
+);
+
+/* Element densities seen through the filter: the sum of each row, one row for each place of out. A row whose places are not in the
+ * lists is empty, and what stands past the end of x counts as 0. */
+void sokdrib_apply(
+    const uint32_t *starts,
+    size_t starts_len,
+    const uint32_t *near_,
+    size_t near_len,
+    const double *coef,
+    size_t coef_len,
+    const double *x,
+    size_t x_len,
+    double *out,
+    size_t out_len
+);
+
+/* Slopes against filtered densities carried back to the densities: the transposed product, one row for each place of g. */
+void sokdrib_back(
+    const uint32_t *starts,
+    size_t starts_len,
+    const uint32_t *near_,
+    size_t near_len,
+    const double *coef,
+    size_t coef_len,
+    const double *g,
+    size_t g_len,
+    double *out,
+    size_t out_len
+);
+
+/* Whether solid of a part's total volume, held solid, leaves no room to come down to target. */
+bool sokdrib_no_room(double solid, double total, double target);
+
+/* Where a run starts: the first design, each element's volume where it is not held solid, and the numbers of the whole run. */
+SokdribStart sokdrib_start(
+    const double *volumes,
+    size_t volumes_len,
+    const bool *passive,
+    size_t passive_len,
+    double fraction,
+    double *design,
+    size_t design_len,
+    double *free,
+    size_t free_len
+);
+
+/* A filtered density v sharpened at the steepness beta, and how fast it moves with v. */
+SokdribProjected sokdrib_project(double v, double beta);
+
+/* What a solve is given from the design x: each element's density, filtered, and sharpened at the steepness beta where sharpen is set,
+ * 1 where it is passive; and how fast each moves with its filtered density. Gives 0, 1 or 14. */
+uint32_t sokdrib_see(
+    const uint32_t *starts,
+    size_t starts_len,
+    const uint32_t *near_,
+    size_t near_len,
+    const double *coef,
+    size_t coef_len,
+    const bool *passive,
+    size_t passive_len,
+    const double *x,
+    size_t x_len,
+    bool sharpen,
+    double beta,
+    double *density,
+    size_t density_len,
+    double *slope,
+    size_t slope_len
+);
+
+/* How the work of the loads goes with each design value, from what the solve saw and the energies that it gave. by_density is for the
+ * call's own use. Gives 0, 1 or 14. */
+uint32_t sokdrib_work_slope(
+    const uint32_t *starts,
+    size_t starts_len,
+    const uint32_t *near_,
+    size_t near_len,
+    const double *coef,
+    size_t coef_len,
+    const bool *passive,
+    size_t passive_len,
+    const double *density,
+    size_t density_len,
+    const double *slope,
+    size_t slope_len,
+    const double *energies,
+    size_t energies_len,
+    double *by_density,
+    size_t by_density_len,
+    double *out,
+    size_t out_len
+);
+
+/* How the volume kept goes with each design value, free each element's volume where it is not held solid. by_density is for the call's
+ * own use. Gives 0, 1 or 14. */
+uint32_t sokdrib_volume_slope(
+    const uint32_t *starts,
+    size_t starts_len,
+    const uint32_t *near_,
+    size_t near_len,
+    const double *coef,
+    size_t coef_len,
+    const double *slope,
+    size_t slope_len,
+    const double *free,
+    size_t free_len,
+    double *by_density,
+    size_t by_density_len,
+    double *out,
+    size_t out_len
+);
+
+/* The volume that a design y keeps. Rule 0: along the slope straight of the volume, from value, the volume held solid. Any other rule: of the
+ * densities that a solve would see at the steepness value. density is for the call's own use. */
+SokdribKept sokdrib_kept(
+    uint32_t rule,
+    double value,
+    const double *straight,
+    size_t straight_len,
+    const uint32_t *starts,
+    size_t starts_len,
+    const uint32_t *near_,
+    size_t near_len,
+    const double *coef,
+    size_t coef_len,
+    const double *volumes,
+    size_t volumes_len,
+    const bool *passive,
+    size_t passive_len,
+    const double *y,
+    size_t y_len,
+    double *density,
+    size_t density_len
+);
+
+/* The work of the loads, from the energy that each element holds. */
+double sokdrib_compliance(const double *energies, size_t energies_len);
+
+/* The share of the total volume that the densities keep, as far as both lists go. */
+double sokdrib_fraction(const double *volumes, size_t volumes_len, const double *density, size_t density_len, double total);
+
+/* The most that any element changed, as far as both lists go. */
+double sokdrib_change(const double *next, size_t next_len, const double *x, size_t x_len);
+
+/* How far from solid or empty the densities are, as far as both lists go: total is the volume that is not held solid. */
+double sokdrib_grey(const double *density, size_t density_len, const double *free, size_t free_len, double total);
+
+/* One update of the design x, from the slopes dc of the work and dv of the volume: each value moved by at most m, the rate found at which the
+ * volume kept is within tolerance of target. The rule and its value are those of sokdrib_kept, with dv for the slope of the volume. design is
+ * left the updated design; gain and work are for the call's own use. */
+SokdribUpdate sokdrib_update(
+    const double *x,
+    size_t x_len,
+    const double *dc,
+    size_t dc_len,
+    const double *dv,
+    size_t dv_len,
+    const bool *passive,
+    size_t passive_len,
+    double m,
+    double target,
+    double tolerance,
+    uint32_t rule,
+    double value,
+    const uint32_t *starts,
+    size_t starts_len,
+    const uint32_t *near_,
+    size_t near_len,
+    const double *coef,
+    size_t coef_len,
+    const double *volumes,
+    size_t volumes_len,
+    double *design,
+    size_t design_len,
+    double *gain,
+    size_t gain_len,
+    double *work,
+    size_t work_len
 );
 
 #ifdef __cplusplus

@@ -10,6 +10,5 @@ pub fn dist2_to_triangle(p: Vec3, a: Vec3, b: Vec3, c: Vec3) -> f64 {
 /// [`dist2_to_triangle`] of each point and the triangle at the same place (its corners in a row), as far as all three lists go; the
 /// rest of `out` stays as it is.
 pub fn dist2_each(points: &[[f64; 3]], triangles: &[[f64; 9]], out: &mut [f64]) {
-    // SAFETY: all three are slices, borrowed here (see the crate's page).
-    unsafe { ffi::sokdrib_dist2_each(points.as_ptr(), points.len(), triangles.as_ptr(), triangles.len(), out.as_mut_ptr(), out.len()) }
+    ffi::sokdrib_dist2_each(points, triangles, out)
 }

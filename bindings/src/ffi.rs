@@ -1,5 +1,8 @@
 // Written by tools/gen_ffi.py from the sources of crate capi: change those, and run it.
-//! What the library exports. A slice is two parameters, a pointer and a count of elements; the functions with none are safe.
+//! What the library exports, over slices.
+//!
+//! In the library a slice is two parameters, a pointer and a count of elements. Each pair that is handed over here is of a slice that is
+//! borrowed while the call lasts, and what may be written is borrowed as `&mut`, so it overlaps no other.
 
 #[repr(C)]
 #[derive(Clone, Copy, Debug, Default, PartialEq)]
@@ -18,70 +21,495 @@ pub struct Mirror {
 }
 const _: () = assert!(size_of::<Mirror>() == 48 && align_of::<Mirror>() == 8);
 
-unsafe extern "C" {
-    /// The size of x.
-    pub safe fn sokdrib_abs(x: f64) -> f64;
-    /// The larger; where one is not a number, the other.
-    pub safe fn sokdrib_max(x: f64, y: f64) -> f64;
-    /// The smaller; where one is not a number, the other.
-    pub safe fn sokdrib_min(x: f64, y: f64) -> f64;
-    /// x brought into 0 to 1; a not-a-number stays one.
-    pub safe fn sokdrib_clamp(x: f64) -> f64;
-    /// Whether x is neither an infinity nor a not-a-number.
-    pub safe fn sokdrib_is_finite(x: f64) -> bool;
-    /// The hyperbolic tangent by Lambert's continued fraction.
-    pub safe fn sokdrib_tanh(z: f64) -> f64;
-    /// IEEE 754's square root, the nearest value.
-    pub safe fn sokdrib_sqrt(x: f64) -> f64;
-    /// x.floor() as a 64-bit integer, counted from -2^63: what lies outside saturates, and a not-a-number counts as 0.
-    pub safe fn sokdrib_floor_at(x: f64) -> u64;
-    /// The nearest whole number, halves away from zero: what lies outside saturates, and a not-a-number gives 0.
-    pub safe fn sokdrib_round_half_away(x: f64) -> u64;
-    /// The bit pattern of x; every not-a-number has one.
-    pub safe fn sokdrib_to_bits(x: f64) -> u64;
-    /// The number of a bit pattern; every pattern of a not-a-number gives the same one.
-    pub safe fn sokdrib_from_bits(n: u64) -> f64;
-    /// A key whose order is IEEE 754's totalOrder.
-    pub safe fn sokdrib_total_key(x: f64) -> u64;
-    pub safe fn sokdrib_vec3_new(x: f64, y: f64, z: f64) -> Vec3;
-    pub safe fn sokdrib_vec3_add(a: Vec3, b: Vec3) -> Vec3;
-    pub safe fn sokdrib_vec3_sub(a: Vec3, b: Vec3) -> Vec3;
-    pub safe fn sokdrib_vec3_scale(a: Vec3, k: f64) -> Vec3;
-    /// The smaller by component.
-    pub safe fn sokdrib_vec3_min(a: Vec3, b: Vec3) -> Vec3;
-    /// The larger by component.
-    pub safe fn sokdrib_vec3_max(a: Vec3, b: Vec3) -> Vec3;
-    pub safe fn sokdrib_vec3_dot(a: Vec3, b: Vec3) -> f64;
-    pub safe fn sokdrib_vec3_cross(a: Vec3, b: Vec3) -> Vec3;
-    /// The square of the length.
-    pub safe fn sokdrib_vec3_len2(a: Vec3) -> f64;
-    pub safe fn sokdrib_vec3_len(a: Vec3) -> f64;
-    /// The distance of two points.
-    pub safe fn sokdrib_vec3_dist(a: Vec3, b: Vec3) -> f64;
-    /// Each component divided by the length.
-    pub safe fn sokdrib_vec3_normalized(a: Vec3) -> Vec3;
-    /// Whether every component is finite.
-    pub safe fn sokdrib_vec3_is_finite(a: Vec3) -> bool;
-    /// Where p is seen in the plane.
-    pub safe fn sokdrib_mirror_image(mirror: Mirror, p: Vec3) -> Vec3;
-    /// The square of the distance from p to the triangle a, b, c.
-    pub safe fn sokdrib_dist2_to_triangle(p: Vec3, a: Vec3, b: Vec3, c: Vec3) -> f64;
-    /// The Young's modulus of a stiffness level for a material of modulus e0.
-    pub safe fn sokdrib_modulus(level: u16, e0: f64) -> f64;
-    /// The level that a density is solved at: the nearest thousandth.
-    pub safe fn sokdrib_level_of(x: f64) -> u16;
-    /// The root of each of xs, as far as both lists go; the rest of out stays as lent.
-    pub unsafe fn sokdrib_sqrt_each(xs: *const f64, xs_len: usize, out: *mut f64, out_len: usize);
-    /// The hyperbolic tangent of each of zs, as far as both lists go; the rest of out stays as lent.
-    pub unsafe fn sokdrib_tanh_each(zs: *const f64, zs_len: usize, out: *mut f64, out_len: usize);
-    /// The square of the distance from each point to the triangle at the same place, its corners in a row, as far as all three lists go;
-    /// the rest of out stays as lent.
-    pub unsafe fn sokdrib_dist2_each(
-        points: *const [f64; 3],
-        points_len: usize,
-        triangles: *const [f64; 9],
-        triangles_len: usize,
-        out: *mut f64,
-        out_len: usize,
-    );
+#[repr(C)]
+#[derive(Clone, Copy, Debug, Default, PartialEq)]
+pub struct Start {
+    pub refused: u32,
+    pub total: f64,
+    pub solid: f64,
+    pub target: f64,
+    pub tolerance: f64,
+    pub density: f64,
+}
+const _: () = assert!(size_of::<Start>() == 48 && align_of::<Start>() == 8);
+
+#[repr(C)]
+#[derive(Clone, Copy, Debug, Default, PartialEq)]
+pub struct Projected {
+    pub density: f64,
+    pub slope: f64,
+}
+const _: () = assert!(size_of::<Projected>() == 16 && align_of::<Projected>() == 8);
+
+#[repr(C)]
+#[derive(Clone, Copy, Debug, Default, PartialEq)]
+pub struct Kept {
+    pub refused: u32,
+    pub volume: f64,
+}
+const _: () = assert!(size_of::<Kept>() == 16 && align_of::<Kept>() == 8);
+
+#[repr(C)]
+#[derive(Clone, Copy, Debug, Default, PartialEq)]
+pub struct Update {
+    pub refused: u32,
+    pub ending: u32,
+    pub first: f64,
+    pub second: f64,
+    pub passes: usize,
+}
+const _: () = assert!(size_of::<Update>() == 32 && align_of::<Update>() == 8);
+
+mod library {
+    use super::{Kept, Mirror, Projected, Start, Update, Vec3};
+
+    unsafe extern "C" {
+        /// The size of x.
+        pub safe fn sokdrib_abs(x: f64) -> f64;
+        /// The larger; where one is not a number, the other.
+        pub safe fn sokdrib_max(x: f64, y: f64) -> f64;
+        /// The smaller; where one is not a number, the other.
+        pub safe fn sokdrib_min(x: f64, y: f64) -> f64;
+        /// x brought into 0 to 1; a not-a-number stays one.
+        pub safe fn sokdrib_clamp(x: f64) -> f64;
+        /// Whether x is neither an infinity nor a not-a-number.
+        pub safe fn sokdrib_is_finite(x: f64) -> bool;
+        /// The hyperbolic tangent by Lambert's continued fraction.
+        pub safe fn sokdrib_tanh(z: f64) -> f64;
+        /// IEEE 754's square root, the nearest value.
+        pub safe fn sokdrib_sqrt(x: f64) -> f64;
+        /// x.floor() as a 64-bit integer, counted from -2^63: what lies outside saturates, and a not-a-number counts as 0.
+        pub safe fn sokdrib_floor_at(x: f64) -> u64;
+        /// The nearest whole number, halves away from zero: what lies outside saturates, and a not-a-number gives 0.
+        pub safe fn sokdrib_round_half_away(x: f64) -> u64;
+        /// The bit pattern of x; every not-a-number has one.
+        pub safe fn sokdrib_to_bits(x: f64) -> u64;
+        /// The number of a bit pattern; every pattern of a not-a-number gives the same one.
+        pub safe fn sokdrib_from_bits(n: u64) -> f64;
+        /// A key whose order is IEEE 754's totalOrder.
+        pub safe fn sokdrib_total_key(x: f64) -> u64;
+        pub safe fn sokdrib_vec3_new(x: f64, y: f64, z: f64) -> Vec3;
+        pub safe fn sokdrib_vec3_add(a: Vec3, b: Vec3) -> Vec3;
+        pub safe fn sokdrib_vec3_sub(a: Vec3, b: Vec3) -> Vec3;
+        pub safe fn sokdrib_vec3_scale(a: Vec3, k: f64) -> Vec3;
+        /// The smaller by component.
+        pub safe fn sokdrib_vec3_min(a: Vec3, b: Vec3) -> Vec3;
+        /// The larger by component.
+        pub safe fn sokdrib_vec3_max(a: Vec3, b: Vec3) -> Vec3;
+        pub safe fn sokdrib_vec3_dot(a: Vec3, b: Vec3) -> f64;
+        pub safe fn sokdrib_vec3_cross(a: Vec3, b: Vec3) -> Vec3;
+        /// The square of the length.
+        pub safe fn sokdrib_vec3_len2(a: Vec3) -> f64;
+        pub safe fn sokdrib_vec3_len(a: Vec3) -> f64;
+        /// The distance of two points.
+        pub safe fn sokdrib_vec3_dist(a: Vec3, b: Vec3) -> f64;
+        /// Each component divided by the length.
+        pub safe fn sokdrib_vec3_normalized(a: Vec3) -> Vec3;
+        /// Whether every component is finite.
+        pub safe fn sokdrib_vec3_is_finite(a: Vec3) -> bool;
+        /// Where p is seen in the plane.
+        pub safe fn sokdrib_mirror_image(mirror: Mirror, p: Vec3) -> Vec3;
+        /// The square of the distance from p to the triangle a, b, c.
+        pub safe fn sokdrib_dist2_to_triangle(p: Vec3, a: Vec3, b: Vec3, c: Vec3) -> f64;
+        /// The Young's modulus of a stiffness level for a material of modulus e0.
+        pub safe fn sokdrib_modulus(level: u16, e0: f64) -> f64;
+        /// The level that a density is solved at: the nearest thousandth.
+        pub safe fn sokdrib_level_of(x: f64) -> u16;
+        pub unsafe fn sokdrib_sqrt_each(xs: *const f64, xs_len: usize, out: *mut f64, out_len: usize);
+        pub unsafe fn sokdrib_tanh_each(zs: *const f64, zs_len: usize, out: *mut f64, out_len: usize);
+        pub unsafe fn sokdrib_dist2_each(
+            points: *const [f64; 3],
+            points_len: usize,
+            triangles: *const [f64; 9],
+            triangles_len: usize,
+            out: *mut f64,
+            out_len: usize,
+        );
+        pub unsafe fn sokdrib_apply(
+            starts: *const u32,
+            starts_len: usize,
+            near: *const u32,
+            near_len: usize,
+            coef: *const f64,
+            coef_len: usize,
+            x: *const f64,
+            x_len: usize,
+            out: *mut f64,
+            out_len: usize,
+        );
+        pub unsafe fn sokdrib_back(
+            starts: *const u32,
+            starts_len: usize,
+            near: *const u32,
+            near_len: usize,
+            coef: *const f64,
+            coef_len: usize,
+            g: *const f64,
+            g_len: usize,
+            out: *mut f64,
+            out_len: usize,
+        );
+        /// Whether solid of a part's total volume, held solid, leaves no room to come down to target.
+        pub safe fn sokdrib_no_room(solid: f64, total: f64, target: f64) -> bool;
+        pub unsafe fn sokdrib_start(
+            volumes: *const f64,
+            volumes_len: usize,
+            passive: *const bool,
+            passive_len: usize,
+            fraction: f64,
+            design: *mut f64,
+            design_len: usize,
+            free: *mut f64,
+            free_len: usize,
+        ) -> Start;
+        /// A filtered density v sharpened at the steepness beta, and how fast it moves with v.
+        pub safe fn sokdrib_project(v: f64, beta: f64) -> Projected;
+        pub unsafe fn sokdrib_see(
+            starts: *const u32,
+            starts_len: usize,
+            near: *const u32,
+            near_len: usize,
+            coef: *const f64,
+            coef_len: usize,
+            passive: *const bool,
+            passive_len: usize,
+            x: *const f64,
+            x_len: usize,
+            sharpen: bool,
+            beta: f64,
+            density: *mut f64,
+            density_len: usize,
+            slope: *mut f64,
+            slope_len: usize,
+        ) -> u32;
+        pub unsafe fn sokdrib_work_slope(
+            starts: *const u32,
+            starts_len: usize,
+            near: *const u32,
+            near_len: usize,
+            coef: *const f64,
+            coef_len: usize,
+            passive: *const bool,
+            passive_len: usize,
+            density: *const f64,
+            density_len: usize,
+            slope: *const f64,
+            slope_len: usize,
+            energies: *const f64,
+            energies_len: usize,
+            by_density: *mut f64,
+            by_density_len: usize,
+            out: *mut f64,
+            out_len: usize,
+        ) -> u32;
+        pub unsafe fn sokdrib_volume_slope(
+            starts: *const u32,
+            starts_len: usize,
+            near: *const u32,
+            near_len: usize,
+            coef: *const f64,
+            coef_len: usize,
+            slope: *const f64,
+            slope_len: usize,
+            free: *const f64,
+            free_len: usize,
+            by_density: *mut f64,
+            by_density_len: usize,
+            out: *mut f64,
+            out_len: usize,
+        ) -> u32;
+        pub unsafe fn sokdrib_kept(
+            rule: u32,
+            value: f64,
+            straight: *const f64,
+            straight_len: usize,
+            starts: *const u32,
+            starts_len: usize,
+            near: *const u32,
+            near_len: usize,
+            coef: *const f64,
+            coef_len: usize,
+            volumes: *const f64,
+            volumes_len: usize,
+            passive: *const bool,
+            passive_len: usize,
+            y: *const f64,
+            y_len: usize,
+            density: *mut f64,
+            density_len: usize,
+        ) -> Kept;
+        pub unsafe fn sokdrib_compliance(energies: *const f64, energies_len: usize) -> f64;
+        pub unsafe fn sokdrib_fraction(volumes: *const f64, volumes_len: usize, density: *const f64, density_len: usize, total: f64) -> f64;
+        pub unsafe fn sokdrib_change(next: *const f64, next_len: usize, x: *const f64, x_len: usize) -> f64;
+        pub unsafe fn sokdrib_grey(density: *const f64, density_len: usize, free: *const f64, free_len: usize, total: f64) -> f64;
+        pub unsafe fn sokdrib_update(
+            x: *const f64,
+            x_len: usize,
+            dc: *const f64,
+            dc_len: usize,
+            dv: *const f64,
+            dv_len: usize,
+            passive: *const bool,
+            passive_len: usize,
+            m: f64,
+            target: f64,
+            tolerance: f64,
+            rule: u32,
+            value: f64,
+            starts: *const u32,
+            starts_len: usize,
+            near: *const u32,
+            near_len: usize,
+            coef: *const f64,
+            coef_len: usize,
+            volumes: *const f64,
+            volumes_len: usize,
+            design: *mut f64,
+            design_len: usize,
+            gain: *mut f64,
+            gain_len: usize,
+            work: *mut f64,
+            work_len: usize,
+        ) -> Update;
+    }
+}
+
+pub use library::{
+    sokdrib_abs, sokdrib_clamp, sokdrib_dist2_to_triangle, sokdrib_floor_at, sokdrib_from_bits, sokdrib_is_finite, sokdrib_level_of,
+    sokdrib_max, sokdrib_min, sokdrib_mirror_image, sokdrib_modulus, sokdrib_no_room, sokdrib_project, sokdrib_round_half_away,
+    sokdrib_sqrt, sokdrib_tanh, sokdrib_to_bits, sokdrib_total_key, sokdrib_vec3_add, sokdrib_vec3_cross, sokdrib_vec3_dist,
+    sokdrib_vec3_dot, sokdrib_vec3_is_finite, sokdrib_vec3_len, sokdrib_vec3_len2, sokdrib_vec3_max, sokdrib_vec3_min, sokdrib_vec3_new,
+    sokdrib_vec3_normalized, sokdrib_vec3_scale, sokdrib_vec3_sub
+};
+
+/// The root of each of xs, as far as both lists go; the rest of out stays as lent.
+pub fn sokdrib_sqrt_each(xs: &[f64], out: &mut [f64]) {
+    // SAFETY: see above.
+    unsafe { library::sokdrib_sqrt_each(xs.as_ptr(), xs.len(), out.as_mut_ptr(), out.len()) }
+}
+
+/// The hyperbolic tangent of each of zs, as far as both lists go; the rest of out stays as lent.
+pub fn sokdrib_tanh_each(zs: &[f64], out: &mut [f64]) {
+    // SAFETY: see above.
+    unsafe { library::sokdrib_tanh_each(zs.as_ptr(), zs.len(), out.as_mut_ptr(), out.len()) }
+}
+
+/// The square of the distance from each point to the triangle at the same place, its corners in a row, as far as all three lists go;
+/// the rest of out stays as lent.
+pub fn sokdrib_dist2_each(points: &[[f64; 3]], triangles: &[[f64; 9]], out: &mut [f64]) {
+    // SAFETY: see above.
+    unsafe { library::sokdrib_dist2_each(points.as_ptr(), points.len(), triangles.as_ptr(), triangles.len(), out.as_mut_ptr(), out.len()) }
+}
+
+/// Element densities seen through the filter: the sum of each row, one row for each place of out. A row whose places are not in the
+/// lists is empty, and what stands past the end of x counts as 0.
+pub fn sokdrib_apply(starts: &[u32], near: &[u32], coef: &[f64], x: &[f64], out: &mut [f64]) {
+    // SAFETY: see above.
+    unsafe { library::sokdrib_apply(
+        starts.as_ptr(), starts.len(),
+        near.as_ptr(), near.len(),
+        coef.as_ptr(), coef.len(),
+        x.as_ptr(), x.len(),
+        out.as_mut_ptr(), out.len()
+    ) }
+}
+
+/// Slopes against filtered densities carried back to the densities: the transposed product, one row for each place of g.
+pub fn sokdrib_back(starts: &[u32], near: &[u32], coef: &[f64], g: &[f64], out: &mut [f64]) {
+    // SAFETY: see above.
+    unsafe { library::sokdrib_back(
+        starts.as_ptr(), starts.len(),
+        near.as_ptr(), near.len(),
+        coef.as_ptr(), coef.len(),
+        g.as_ptr(), g.len(),
+        out.as_mut_ptr(), out.len()
+    ) }
+}
+
+/// Where a run starts: the first design, each element's volume where it is not held solid, and the numbers of the whole run.
+pub fn sokdrib_start(volumes: &[f64], passive: &[bool], fraction: f64, design: &mut [f64], free: &mut [f64]) -> Start {
+    // SAFETY: see above.
+    unsafe { library::sokdrib_start(
+        volumes.as_ptr(), volumes.len(),
+        passive.as_ptr(), passive.len(),
+        fraction,
+        design.as_mut_ptr(), design.len(),
+        free.as_mut_ptr(), free.len()
+    ) }
+}
+
+/// What a solve is given from the design x: each element's density, filtered, and sharpened at the steepness beta where sharpen is set,
+/// 1 where it is passive; and how fast each moves with its filtered density. Gives 0, 1 or 14.
+#[allow(clippy::too_many_arguments)]
+pub fn sokdrib_see(
+    starts: &[u32],
+    near: &[u32],
+    coef: &[f64],
+    passive: &[bool],
+    x: &[f64],
+    sharpen: bool,
+    beta: f64,
+    density: &mut [f64],
+    slope: &mut [f64],
+) -> u32 {
+    // SAFETY: see above.
+    unsafe { library::sokdrib_see(
+        starts.as_ptr(), starts.len(),
+        near.as_ptr(), near.len(),
+        coef.as_ptr(), coef.len(),
+        passive.as_ptr(), passive.len(),
+        x.as_ptr(), x.len(),
+        sharpen,
+        beta,
+        density.as_mut_ptr(), density.len(),
+        slope.as_mut_ptr(), slope.len()
+    ) }
+}
+
+/// How the work of the loads goes with each design value, from what the solve saw and the energies that it gave. by_density is for the
+/// call's own use. Gives 0, 1 or 14.
+#[allow(clippy::too_many_arguments)]
+pub fn sokdrib_work_slope(
+    starts: &[u32],
+    near: &[u32],
+    coef: &[f64],
+    passive: &[bool],
+    density: &[f64],
+    slope: &[f64],
+    energies: &[f64],
+    by_density: &mut [f64],
+    out: &mut [f64],
+) -> u32 {
+    // SAFETY: see above.
+    unsafe { library::sokdrib_work_slope(
+        starts.as_ptr(), starts.len(),
+        near.as_ptr(), near.len(),
+        coef.as_ptr(), coef.len(),
+        passive.as_ptr(), passive.len(),
+        density.as_ptr(), density.len(),
+        slope.as_ptr(), slope.len(),
+        energies.as_ptr(), energies.len(),
+        by_density.as_mut_ptr(), by_density.len(),
+        out.as_mut_ptr(), out.len()
+    ) }
+}
+
+/// How the volume kept goes with each design value, free each element's volume where it is not held solid. by_density is for the call's
+/// own use. Gives 0, 1 or 14.
+pub fn sokdrib_volume_slope(
+    starts: &[u32],
+    near: &[u32],
+    coef: &[f64],
+    slope: &[f64],
+    free: &[f64],
+    by_density: &mut [f64],
+    out: &mut [f64],
+) -> u32 {
+    // SAFETY: see above.
+    unsafe { library::sokdrib_volume_slope(
+        starts.as_ptr(), starts.len(),
+        near.as_ptr(), near.len(),
+        coef.as_ptr(), coef.len(),
+        slope.as_ptr(), slope.len(),
+        free.as_ptr(), free.len(),
+        by_density.as_mut_ptr(), by_density.len(),
+        out.as_mut_ptr(), out.len()
+    ) }
+}
+
+/// The volume that a design y keeps. Rule 0: along the slope straight of the volume, from value, the volume held solid. Any other rule: of the
+/// densities that a solve would see at the steepness value. density is for the call's own use.
+#[allow(clippy::too_many_arguments)]
+pub fn sokdrib_kept(
+    rule: u32,
+    value: f64,
+    straight: &[f64],
+    starts: &[u32],
+    near: &[u32],
+    coef: &[f64],
+    volumes: &[f64],
+    passive: &[bool],
+    y: &[f64],
+    density: &mut [f64],
+) -> Kept {
+    // SAFETY: see above.
+    unsafe { library::sokdrib_kept(
+        rule,
+        value,
+        straight.as_ptr(), straight.len(),
+        starts.as_ptr(), starts.len(),
+        near.as_ptr(), near.len(),
+        coef.as_ptr(), coef.len(),
+        volumes.as_ptr(), volumes.len(),
+        passive.as_ptr(), passive.len(),
+        y.as_ptr(), y.len(),
+        density.as_mut_ptr(), density.len()
+    ) }
+}
+
+/// The work of the loads, from the energy that each element holds.
+pub fn sokdrib_compliance(energies: &[f64]) -> f64 {
+    // SAFETY: see above.
+    unsafe { library::sokdrib_compliance(energies.as_ptr(), energies.len()) }
+}
+
+/// The share of the total volume that the densities keep, as far as both lists go.
+pub fn sokdrib_fraction(volumes: &[f64], density: &[f64], total: f64) -> f64 {
+    // SAFETY: see above.
+    unsafe { library::sokdrib_fraction(volumes.as_ptr(), volumes.len(), density.as_ptr(), density.len(), total) }
+}
+
+/// The most that any element changed, as far as both lists go.
+pub fn sokdrib_change(next: &[f64], x: &[f64]) -> f64 {
+    // SAFETY: see above.
+    unsafe { library::sokdrib_change(next.as_ptr(), next.len(), x.as_ptr(), x.len()) }
+}
+
+/// How far from solid or empty the densities are, as far as both lists go: total is the volume that is not held solid.
+pub fn sokdrib_grey(density: &[f64], free: &[f64], total: f64) -> f64 {
+    // SAFETY: see above.
+    unsafe { library::sokdrib_grey(density.as_ptr(), density.len(), free.as_ptr(), free.len(), total) }
+}
+
+/// One update of the design x, from the slopes dc of the work and dv of the volume: each value moved by at most m, the rate found at which the
+/// volume kept is within tolerance of target. The rule and its value are those of sokdrib_kept, with dv for the slope of the volume. design is
+/// left the updated design; gain and work are for the call's own use.
+#[allow(clippy::too_many_arguments)]
+pub fn sokdrib_update(
+    x: &[f64],
+    dc: &[f64],
+    dv: &[f64],
+    passive: &[bool],
+    m: f64,
+    target: f64,
+    tolerance: f64,
+    rule: u32,
+    value: f64,
+    starts: &[u32],
+    near: &[u32],
+    coef: &[f64],
+    volumes: &[f64],
+    design: &mut [f64],
+    gain: &mut [f64],
+    work: &mut [f64],
+) -> Update {
+    // SAFETY: see above.
+    unsafe { library::sokdrib_update(
+        x.as_ptr(), x.len(),
+        dc.as_ptr(), dc.len(),
+        dv.as_ptr(), dv.len(),
+        passive.as_ptr(), passive.len(),
+        m,
+        target,
+        tolerance,
+        rule,
+        value,
+        starts.as_ptr(), starts.len(),
+        near.as_ptr(), near.len(),
+        coef.as_ptr(), coef.len(),
+        volumes.as_ptr(), volumes.len(),
+        design.as_mut_ptr(), design.len(),
+        gain.as_mut_ptr(), gain.len(),
+        work.as_mut_ptr(), work.len()
+    ) }
 }

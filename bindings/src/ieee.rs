@@ -33,8 +33,7 @@ pub fn tanh(z: f64) -> f64 {
 
 /// [`tanh`] of each of `zs`, as far as both lists go; the rest of `out` stays as it is.
 pub fn tanh_each(zs: &[f64], out: &mut [f64]) {
-    // SAFETY: both are slices, borrowed here (see the crate's page).
-    unsafe { ffi::sokdrib_tanh_each(zs.as_ptr(), zs.len(), out.as_mut_ptr(), out.len()) }
+    ffi::sokdrib_tanh_each(zs, out)
 }
 
 pub mod root {
@@ -47,8 +46,7 @@ pub mod root {
 
     /// [`sqrt`] of each of `xs`, as far as both lists go; the rest of `out` stays as it is.
     pub fn sqrt_each(xs: &[f64], out: &mut [f64]) {
-        // SAFETY: both are slices, borrowed here (see the crate's page).
-        unsafe { ffi::sokdrib_sqrt_each(xs.as_ptr(), xs.len(), out.as_mut_ptr(), out.len()) }
+        ffi::sokdrib_sqrt_each(xs, out)
     }
 }
 

@@ -1,9 +1,19 @@
 //! The proved library for Rust, in the modules and under the names that it has there.
 //!
-//! Every function of the library has a result for every input, so nothing is tested here. A list goes over as a pointer and a count:
-//! each is of a slice that is borrowed while the call lasts, and what may be written is borrowed as `&mut`, so it overlaps no other.
+//! Every function of the library has a result for every input, so nothing is tested here. Lists are lent: the library keeps none.
 pub mod faces;
+#[rustfmt::skip]
 pub mod ffi;
 pub mod geom;
 pub mod ieee;
+pub mod oc;
+pub mod table;
 pub mod topo;
+
+/// The number of a refusal: document 01, "What a refusal hands back".
+#[derive(Clone, Copy, Debug, PartialEq, Eq)]
+pub struct Refused(pub u32);
+
+fn refusal(number: u32) -> Result<(), Refused> {
+    if number == 0 { Ok(()) } else { Err(Refused(number)) }
+}

@@ -4,8 +4,10 @@ use std::time::Instant;
 
 use crate::inputs::Gen;
 
-/// How many differences of one leaf are shown.
+/// How many differences of one function are shown: those of the smallest inputs.
 const SHOWN: usize = 4;
+/// How many numbers of an input or a result are shown.
+const MOST: usize = 400;
 
 /// What is given or handed back: as it is compared, and as it is shown.
 pub trait Value {
@@ -56,7 +58,7 @@ macro_rules! whole {
         }
     })* };
 }
-whole!(bool, u16, u64, usize, Ordering);
+whole!(bool, u16, u32, u64, usize, Ordering);
 
 macro_rules! lists {
     ($(($($bound:tt)*) $t:ty),*) => { $(impl<T: Value, $($bound)*> Value for $t {
@@ -85,16 +87,48 @@ impl<A: Value, B: Value> Value for (A, B) {
     }
 }
 
-fn shown(v: &impl Value) -> String {
-    v.bits().iter().map(|b| format!("{b:016x}")).collect::<Vec<_>>().join(" ")
+impl<A: Value, B: Value, C: Value> Value for (A, B, C) {
+    fn keys(&self) -> Vec<u64> {
+        [self.0.keys(), self.1.keys(), self.2.keys()].concat()
+    }
+    fn bits(&self) -> Vec<u64> {
+        [self.0.bits(), self.1.bits(), self.2.bits()].concat()
+    }
+    fn same(&self, o: &(A, B, C)) -> bool {
+        self.0.same(&o.0) && self.1.same(&o.1) && self.2.same(&o.2)
+    }
 }
 
-/// One run over all leaves.
+/// A struct by its fields.
+#[macro_export]
+macro_rules! fields {
+    ($t:ty: $($field:ident),*) => { impl $crate::compare::Value for $t {
+        fn keys(&self) -> Vec<u64> {
+            [$($crate::compare::Value::keys(&self.$field)),*].concat()
+        }
+        fn bits(&self) -> Vec<u64> {
+            [$($crate::compare::Value::bits(&self.$field)),*].concat()
+        }
+        fn same(&self, o: &$t) -> bool {
+            $($crate::compare::Value::same(&self.$field, &o.$field))&&*
+        }
+    } };
+}
+
+fn shown(bits: &[u64]) -> String {
+    let mut text = bits.iter().take(MOST).map(|b| format!("{b:x}")).collect::<Vec<_>>().join(" ");
+    if bits.len() > MOST {
+        text += &format!(" .. ({} numbers)", bits.len());
+    }
+    text
+}
+
+/// One run over all functions.
 pub struct Run {
-    /// How many random cases each leaf gets, beside its edges.
+    /// How many random cases a leaf gets, beside its edges.
     pub cases: usize,
     pub seed: u64,
-    pub leaves: usize,
+    pub functions: usize,
     pub total: usize,
     pub differences: usize,
     began: Instant,
@@ -102,7 +136,7 @@ pub struct Run {
 
 impl Run {
     pub fn new(cases: usize, seed: u64) -> Run {
-        Run { cases, seed, leaves: 0, total: 0, differences: 0, began: Instant::now() }
+        Run { cases, seed, functions: 0, total: 0, differences: 0, began: Instant::now() }
     }
 
     /// Compares one leaf on its edges and on random inputs, and prints its line.
@@ -110,34 +144,57 @@ impl Run {
         &mut self,
         name: &str,
         edges: impl IntoIterator<Item = I>,
+        random: impl FnMut(&mut Gen) -> I,
+        original: impl Fn(I) -> O,
+        ours: impl Fn(I) -> O,
+    ) {
+        self.jobs(name, 1, edges, random, original, ours);
+    }
+
+    /// The same for a function that takes lists: it gets one random case for every `share` of a leaf's.
+    pub fn jobs<I: Value + Clone, O: Value>(
+        &mut self,
+        name: &str,
+        share: usize,
+        edges: impl IntoIterator<Item = I>,
         mut random: impl FnMut(&mut Gen) -> I,
         original: impl Fn(I) -> O,
         ours: impl Fn(I) -> O,
     ) {
+        let began = Instant::now();
         let mut random_inputs = Gen::of(self.seed, name);
         let (mut cases, mut differences) = (0, 0);
-        let all = edges.into_iter().chain((0..self.cases).map(|_| random(&mut random_inputs)));
+        let mut smallest: Vec<(usize, String)> = Vec::new();
+        let all = edges.into_iter().chain((0..self.cases.div_ceil(share)).map(|_| random(&mut random_inputs)));
         for input in all {
             cases += 1;
             let (a, b) = (original(input.clone()), ours(input.clone()));
             if !a.same(&b) {
                 differences += 1;
-                if differences <= SHOWN {
-                    println!("{name}: case {cases}: {}\n    original {}\n    ours     {}", shown(&input), shown(&a), shown(&b));
-                }
+                let given = input.bits();
+                let text = format!(
+                    "{name}: case {cases}: {}\n    original {}\n    ours     {}",
+                    shown(&given),
+                    shown(&a.bits()),
+                    shown(&b.bits())
+                );
+                smallest.push((given.len(), text));
+                smallest.sort_by_key(|(size, _)| *size);
+                smallest.truncate(SHOWN);
             }
         }
-        println!("{name:<20} {cases:>10} cases {differences:>6} differences");
-        self.leaves += 1;
+        smallest.iter().for_each(|(_, text)| println!("{text}"));
+        println!("{name:<20} {cases:>10} cases {differences:>6} differences {:>7.1} s", began.elapsed().as_secs_f64());
+        self.functions += 1;
         self.total += cases;
         self.differences += differences;
     }
 
-    /// Prints the sum of all leaves; whether they agree.
+    /// Prints the sum of all; whether they agree.
     pub fn close(&self) -> bool {
         println!(
-            "differential: {} leaves, {} cases, {} differences (seed {}, {:.1} s)",
-            self.leaves,
+            "differential: {} functions, {} cases, {} differences (seed {}, {:.1} s)",
+            self.functions,
             self.total,
             self.differences,
             self.seed,

@@ -2,12 +2,15 @@
 //!
 //!     differential [--cases N] [--long] [--seed S]
 //!
-//! Prints a line for each function: how many cases, how many differences, and the inputs of the first few as bits. Ends with
-//! status 1 where there are any. `--cases` is how many random inputs each function gets beside its edges; `--long` means
-//! twenty times as many.
+//! Prints a line for each function: how many cases, how many differences, and the smallest inputs that have one, as bits. Ends with
+//! status 1 where there are any. `--cases` is how many random inputs a leaf gets beside its edges, and functions over lists get fewer in
+//! proportion; `--long` means twenty times as many.
 mod compare;
+mod filter;
 mod inputs;
 mod leaves;
+mod lists;
+mod oc;
 
 use std::process::ExitCode;
 
@@ -37,5 +40,7 @@ fn main() -> ExitCode {
     };
     let mut run = Run::new(cases, seed);
     leaves::all(&mut run);
+    filter::all(&mut run);
+    oc::all(&mut run);
     if run.close() { ExitCode::SUCCESS } else { ExitCode::FAILURE }
 }

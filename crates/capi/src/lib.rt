@@ -1,4 +1,9 @@
 // The library for C and Rust: each function under a name of its own, with the contract of the function that it calls.
+mod filters;
+mod lent;
+mod rounds;
+mod updates;
+
 ghost use mathlib.Core.Path.{_≡_};
 ghost use Prim.Native.Nat.{min};
 ghost use mathlib.Core.List.{[]};

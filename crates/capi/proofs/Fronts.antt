@@ -1,0 +1,65 @@
+-- What the tests of lent lists tell, and what is left in the lists: by cases of the number, and of a list taken apart at n.
+use mathlib.Core.Path.{_≡_, refl, sym, _∙_}
+use mathlib.Core.Bool.{Bool, false, not, _||_}
+use mathlib.Core.List.{List, _++_}
+use Prim.Native.Nat.{ℕ, zero, suc, _≤_}
+use native.Mathlib.Omega.{arith}
+use lib.ListN.{length, take, drop}
+use lib.Seq.{length-take-le, length-front, drop-at}
+use lib.Dec.{eqb, ltb}
+use borrow.Author.Tests.{eqb-true, ltb-false, not-false}
+use Rattle.lists.proofs.Laws.{passes-on, neither}
+use Rattle.capi.specs.Lent.{refusalOf, unless, laid, left, Used}
+
+pub accepted : (number : ℕ) (differ short : Bool) → number ≡ refusalOf differ short → number ≡ 0 → (differ ≡ false) × (short ≡ false)
+accepted number differ short e z =
+    let p = passes-on differ 1 _ (omega arith) (sym e ∙ z) in
+    (p .0, passes-on short 14 0 (omega arith) (p .1) .0)
+
+pub same-count : (a b : ℕ) → not (eqb a b) ≡ false → a ≡ b
+same-count a b e = eqb-true a b (not-false _ e)
+
+-- lists that are not too short
+pub one-fits : (number n a : ℕ) (differ : Bool) → number ≡ refusalOf differ (ltb a n) → number ≡ 0 → n ≤ a
+one-fits number n a differ e z = ltb-false a n (accepted number differ (ltb a n) e z .1)
+
+pub two-fit : (number n a b : ℕ) (differ : Bool) → number ≡ refusalOf differ (ltb a n || ltb b n) → number ≡ 0 → (n ≤ a) × (n ≤ b)
+two-fit number n a b differ e z =
+    let p = neither (ltb a n) (ltb b n) (accepted number differ (ltb a n || ltb b n) e z .1) in
+    (ltb-false a n (p .0), ltb-false b n (p .1))
+
+pub three-fit : (number n a b d : ℕ) (differ : Bool) → number ≡ refusalOf differ (ltb a n || ltb b n || ltb d n) → number ≡ 0 → (n ≤ a) × (n ≤ b) × (n ≤ d)
+three-fit number n a b d differ e z =
+    let p = neither (ltb a n || ltb b n) (ltb d n) (accepted number differ (ltb a n || ltb b n || ltb d n) e z .1) in
+    let q = neither (ltb a n) (ltb b n) (p .0) in
+    (ltb-false a n (q .0), ltb-false b n (q .1), ltb-false d n (p .1))
+
+pub unless-refused : {A : Type 0} (number : ℕ) (a b : A) → (number ≡ 0 → ⊥) → b ≡ unless number a b
+unfolding unless
+unless-refused zero a b e = absurd (e refl)
+unless-refused (suc k) a b e = refl
+
+pub unless-accepted : {A : Type 0} (number : ℕ) (a b : A) → number ≡ 0 → a ≡ unless number a b
+unfolding unless
+unless-accepted number a b z = rw z
+
+module _ {A : Type 0} where
+  -- lists of a call that is refused
+  pub kept : (number : ℕ) (new l : List A) → (number ≡ 0 → ⊥) → l ≡ left number new l
+  kept number new l e = unless-refused number (laid new l) l e
+
+  pub not-used : (number n : ℕ) (l : List A) → (number ≡ 0 → ⊥) → Used number n l l
+  unfolding Used
+  not-used zero n l e = absurd (e refl)
+  not-used (suc k) n l e = refl
+
+  -- a front part that is written, and one that is used
+  pub written : (number n : ℕ) (new part l : List A) → number ≡ 0 → n ≤ length l → length part ≡ length (take n l) → part ≡ new → part ++ drop n l ≡ left number new l
+  unfolding laid
+  written number n new part l z h e w =
+      let same : part ++ drop n l ≡ laid new l = rw (sym w, e, length-take-le n l h) in
+      same ∙ unless-accepted number (laid new l) l z
+
+  pub used : (number n : ℕ) (part l : List A) → number ≡ 0 → n ≤ length l → length part ≡ length (take n l) → Used number n l (part ++ drop n l)
+  unfolding Used
+  used number n part l z h e = rw z (length-front l part n e, drop-at part (drop n l) n (e ∙ length-take-le n l h))

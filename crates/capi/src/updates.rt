@@ -1,0 +1,126 @@
+// The update of a design.
+ghost use mathlib.Core.Path.{_≡_};
+ghost use mathlib.Core.Bool.{not, _||_};
+ghost use lib.ListN.{length};
+ghost use lib.Dec.{eqb, ltb};
+ghost use Rattle.update.specs.Design.{gainsOf};
+ghost use Rattle.update.specs.Update.{updated};
+ghost use Rattle.capi.specs.Lent.{refusalOf, unless, left, Used};
+ghost use Rattle.capi.specs.Numbers.{ruleOf, endingNumber, endingFirst, endingSecond, toldOf, refusedWith, answerOf};
+use update::Ending;
+
+// How an update ended, or the number of a refusal and zeros. Ending 0: met, with the kept volume first. 1: cramped, with the lower and the
+// upper rate of its bracket. 2: spent, with the kept volume first.
+#[repr(C)]
+pub struct Update {
+    pub refused: u32,
+    pub ending: u32,
+    pub first: f64,
+    pub second: f64,
+    pub passes: usize,
+}
+
+fn ending_number(e: Ending) -> u32
+    ensures { λ r. ⌜ r ≡ endingNumber e ⌝ }
+{
+    match e {
+        Ending::Met(_) => 0,
+        Ending::Cramped(_, _) => 1,
+        Ending::Spent(_) => 2,
+    }
+}
+
+fn ending_first(e: Ending) -> f64
+    ensures { λ r. ⌜ r ≡ endingFirst e ⌝ }
+{
+    match e {
+        Ending::Met(kept) => kept,
+        Ending::Cramped(low, _) => low,
+        Ending::Spent(kept) => kept,
+    }
+}
+
+fn ending_second(e: Ending) -> f64
+    ensures { λ r. ⌜ r ≡ endingSecond e ⌝ }
+{
+    match e {
+        Ending::Met(_) => 0.0,
+        Ending::Cramped(_, high) => high,
+        Ending::Spent(_) => 0.0,
+    }
+}
+
+fn told(u: update::Updated) -> Update
+    ensures { λ r. ⌜ r ≡ toldOf u ⌝ }
+{
+    let e = u.ending;
+    Update {
+        refused: 0,
+        ending: ending_number(e),
+        first: ending_first(e),
+        second: ending_second(e),
+        passes: u.passes,
+    }
+}
+
+// One update of the design x, from the slopes dc of the work and dv of the volume: each value moved by at most m, the rate found at which the
+// volume kept is within tolerance of target. The rule and its value are those of sokdrib_kept, with dv for the slope of the volume. design is
+// left the updated design; gain and work are for the call's own use.
+#[no_mangle]
+pub extern "C" fn sokdrib_update(
+    x: &[f64],
+    dc: &[f64],
+    dv: &[f64],
+    passive: &[bool],
+    m: f64,
+    target: f64,
+    tolerance: f64,
+    rule: u32,
+    value: f64,
+    starts: &[u32],
+    near: &[u32],
+    coef: &[f64],
+    volumes: &[f64],
+    design: &mut [f64],
+    gain: &mut [f64],
+    work: &mut [f64],
+) -> Update
+    ensures { λ r. ⌜ r .refused ≡ refusalOf (not (eqb (length (now (dc .entry))) (length (now (x .entry)))) || not (eqb (length (now (dv .entry))) (length (now (x .entry)))) || not (eqb (length (now (passive .entry))) (length (now (x .entry)))) || not (eqb (length (now (volumes .entry))) (length (now (x .entry))))) (ltb (length (now (design .entry))) (length (now (x .entry))) || ltb (length (now (gain .entry))) (length (now (x .entry))) || ltb (length (now (work .entry))) (length (now (x .entry)))) ⌝ }
+    ensures { λ r. ⌜ r ≡ unless (r .refused) (toldOf (answerOf (record { x = now (x .entry); gain = gainsOf (now (dc .entry)) (now (dv .entry)); dv = now (dv .entry); passive = now (passive .entry); move = m; target = target; tolerance = tolerance; rule = ruleOf rule value; starts = now (starts .entry); near = now (near .entry); coef = now (coef .entry); volumes = now (volumes .entry) }))) (refusedWith (r .refused)) ⌝ }
+    ensures { λ r. ⌜ now (design .exit) ≡ left (r .refused) (updated (record { x = now (x .entry); gain = gainsOf (now (dc .entry)) (now (dv .entry)); dv = now (dv .entry); passive = now (passive .entry); move = m; target = target; tolerance = tolerance; rule = ruleOf rule value; starts = now (starts .entry); near = now (near .entry); coef = now (coef .entry); volumes = now (volumes .entry) }) .design) (now (design .entry)) ⌝ }
+    ensures { λ r. ⌜ (Used (r .refused) (length (now (x .entry))) (now (gain .entry)) (now (gain .exit))) × (Used (r .refused) (length (now (x .entry))) (now (work .entry)) (now (work .exit))) ⌝ }
+{
+    let n = x.len();
+    let refused = crate::lent::refusal(
+        (dc.len() != n) | (dv.len() != n) | (passive.len() != n) | (volumes.len() != n),
+        (design.len() < n) | (gain.len() < n) | (work.len() < n),
+    );
+    if refused != 0 {
+        return Update {
+            refused,
+            ending: 0,
+            first: 0.0,
+            second: 0.0,
+            passes: 0,
+        };
+    }
+    let rule = crate::rounds::rule_of(rule, value);
+    let u = update::update(
+        x,
+        dc,
+        dv,
+        passive,
+        m,
+        target,
+        tolerance,
+        rule,
+        starts,
+        near,
+        coef,
+        volumes,
+        &mut design[..n],
+        &mut gain[..n],
+        &mut work[..n],
+    );
+    told(u)
+}
