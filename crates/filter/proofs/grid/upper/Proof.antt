@@ -1,0 +1,76 @@
+-- `filter::grid::upper` meets its contract. The invariant: the corner of the middles passed. Assumes nothing.
+use borrow.Author.Needs.{needs}
+use mathlib.Core.Path.{_≡_, sym, ap, _∙_}
+use mathlib.Core.List.{[]}
+use Prim.Native.Nat.{_-_, _≤_}
+use native.Mathlib.Nat.{le-antisymm}
+use native.Mathlib.Omega.{arith}
+use lib.ListN.{length, getD}
+use denote.Ref.{now}
+use Rattle.lists.specs.Lists.{foldOver}
+use Rattle.lists.proofs.Laws.{foldOver-none, foldOver-more}
+use Rattle.geom.specs.Vectors.{greatest}
+use Rattle.filter.specs.Filter.{middle, highest}
+use Rattle.filter.proofs.grid.upper.Statement.{statement}
+use Rattle.filter.proofs.grid.upper.Tie as tie
+
+abbrev Inv-loop : tie.InvT-loop
+Inv-loop centroids hi₀ i₀ hi i = (1 ≤ i) × (i ≤ length centroids) × (hi ≡ foldOver (λ k v. greatest v (middle centroids k)) (middle centroids 0) 1 i)
+
+abbrev μ-loop : tie.MeasureT-loop
+μ-loop centroids hi₀ i₀ hi i = length centroids - i
+
+shared-slice-copy-out-vector : tie.Need-shared-slice-copy-out-vector Inv-loop μ-loop
+shared-slice-copy-out-vector c = search needs
+
+vector-requires : tie.Need-vector-requires Inv-loop μ-loop
+vector-requires c κs = search needs
+
+loop-holds : tie.Need-loop-holds Inv-loop μ-loop
+loop-holds c = (search needs, search needs, c .vector .ensures ∙ sym (foldOver-none _ _ 1 1 (omega arith)))
+
+mul-vector : tie.Need-mul-vector Inv-loop μ-loop
+mul-vector c = search needs
+
+shared-slice-copy-out-vector-2 : tie.Need-shared-slice-copy-out-vector-2 Inv-loop μ-loop
+shared-slice-copy-out-vector-2 c = search needs
+
+vector-requires-2 : tie.Need-vector-requires-2 Inv-loop μ-loop
+vector-requires-2 c κs = search needs
+
+max-requires : tie.Need-max-requires Inv-loop μ-loop
+max-requires c κs = search needs
+
+add-i : tie.Need-add-i Inv-loop μ-loop
+add-i c = search needs
+
+loop-less : tie.Need-loop-less Inv-loop μ-loop
+loop-less c = search needs
+
+loop-again : tie.Need-loop-again Inv-loop μ-loop
+loop-again c = let a = c .before .before .before .before .before .before .before .args in
+    let i = c .before .before .before .before .loop .i in
+    (search needs, search needs, c .max .ensures ∙ rw (c .before .vector2 .ensures, c .before .before .before .before .loop .inv .2) (foldOver-more (λ k v. greatest v (middle (now (a .centroids)) k)) (middle (now (a .centroids)) 0) 1 i (c .before .before .before .before .loop .inv .0)))
+
+returns : tie.Need-returns Inv-loop μ-loop
+unfolding highest
+returns c = let a = now (c .before .before .before .before .args .centroids) in
+    c .before .loop .inv .2 ∙ ap (foldOver (λ k v. greatest v (middle a k)) (middle a 0) 1) (le-antisymm (c .before .loop .inv .1) (c .loop-test .left))
+
+pub upper-spec : {M : Type 1} → statement M
+upper-spec =
+    tie.close
+    (tie.spec
+    Inv-loop
+    μ-loop
+    shared-slice-copy-out-vector
+    vector-requires
+    loop-holds
+    mul-vector
+    shared-slice-copy-out-vector-2
+    vector-requires-2
+    max-requires
+    add-i
+    loop-less
+    loop-again
+    returns)

@@ -1,0 +1,21 @@
+-- `filter::group::unit_of` meets its contract by the calls' promises. Assumes nothing.
+use mathlib.Core.Path.{ap, _∙_}
+use Rattle.geom.specs.Vectors.{normalized}
+use Rattle.geom.specs.declared.Mirror.{Mirror}
+use Rattle.filter.specs.Group.{unit}
+use borrow.Author.Needs.{needs}
+use Rattle.filter.proofs.group.unit_of.Statement.{statement}
+use Rattle.filter.proofs.group.unit_of.Tie as tie
+
+mirror-requires : tie.Need-mirror-requires
+mirror-requires c κs = search needs
+
+normalized-requires : tie.Need-normalized-requires
+normalized-requires c κs = search needs
+
+returns : tie.Need-returns
+unfolding unit
+returns c = rw (c .normalized .ensures, c .before .before .before .mirror .ensures)
+
+pub unit-of-spec : {M : Type 1} → statement M
+unit-of-spec = tie.close (tie.spec mirror-requires normalized-requires returns)

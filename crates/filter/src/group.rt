@@ -1,0 +1,158 @@
+// The planes of symmetry and the reflections in them: filter.rs, `mirror_group`.
+ghost use mathlib.Core.Path.{_≡_};
+ghost use mathlib.Core.Bool.{not};
+ghost use Prim.Native.Nat.{_≤_, _<_};
+ghost use lib.ListN.{length, getD};
+ghost use Rattle.lists.specs.Lists.{choose};
+ghost use Rattle.geom.specs.Vectors as Vectors;
+ghost use Rattle.filter.specs.Group.{plane, unit, skew, planeBad, planesBad, skewBefore, planesSkew, mirrors, imageIn, outsideDomain};
+ghost use Rattle.filter.specs.Planes.{mirrorsOf, standIn};
+use geom::Mirror;
+use geom::Vec3;
+
+// Up to three planes, with normals of unit length.
+pub struct Planes {
+    pub count: usize,
+    pub a: Mirror,
+    pub b: Mirror,
+    pub c: Mirror,
+}
+
+fn mirror(p: [f64; 6]) -> Mirror
+    ensures { λ r. ⌜ r ≡ plane p ⌝ }
+{
+    Mirror {
+        point: Vec3 {
+            x: p[0],
+            y: p[1],
+            z: p[2],
+        },
+        normal: Vec3 {
+            x: p[3],
+            y: p[4],
+            z: p[5],
+        },
+    }
+}
+
+fn beyond(v: f64) -> bool
+    ensures { λ r. ⌜ r ≡ outsideDomain v ⌝ }
+{
+    !(ieee::abs(v) <= 1000000.0)
+}
+
+// Whether a plane is outside the domain, or its normal no longer than 1e-12.
+pub fn plane_bad(p: [f64; 6]) -> bool
+    ensures { λ r. ⌜ r ≡ planeBad p ⌝ }
+{
+    let a = beyond(p[0]) | beyond(p[1]) | beyond(p[2]) | beyond(p[3]) | beyond(p[4]) | beyond(p[5]);
+    let normal = Vec3 {
+        x: p[3],
+        y: p[4],
+        z: p[5],
+    };
+    a | !(normal.len() > 1e-12)
+}
+
+pub fn planes_bad(planes: &[[f64; 6]]) -> bool
+    ensures { λ r. ⌜ r ≡ planesBad (now (planes .entry)) ⌝ }
+{
+    let mut t = false;
+    let mut k = 0usize;
+    while k < planes.len() {
+        t = t | plane_bad(planes[k]);
+        k += 1usize;
+    }
+    t
+}
+
+// The plane with its normal made of unit length.
+fn unit_of(p: [f64; 6]) -> Mirror
+    ensures { λ r. ⌜ r ≡ unit (plane p) ⌝ }
+{
+    let m = mirror(p);
+    let point = m.point;
+    let normal = m.normal;
+    Mirror {
+        point,
+        normal: normal.normalized(),
+    }
+}
+
+fn pair_skew(p: [f64; 6], q: [f64; 6]) -> bool
+    ensures { λ r. ⌜ r ≡ skew (unit (plane p)) (unit (plane q)) ⌝ }
+{
+    let m = unit_of(p);
+    let k = unit_of(q);
+    let a = m.normal;
+    let b = k.normal;
+    ieee::abs(a.dot(b)) > 1e-9
+}
+
+// Whether plane j is not square to one before it.
+fn leans(planes: &[[f64; 6]], j: usize) -> bool
+    requires { ⌜ j < length (now planes) ⌝ }
+    ensures { λ r. ⌜ r ≡ skewBefore (now (planes .entry)) j ⌝ }
+{
+    let mut t = false;
+    let mut i = 0usize;
+    while i < j {
+        t = t | pair_skew(planes[i], planes[j]);
+        i += 1usize;
+    }
+    t
+}
+
+// Whether the planes are square to each other, pair by pair.
+pub fn planes_square(planes: &[[f64; 6]]) -> bool
+    ensures { λ r. ⌜ r ≡ not (planesSkew (now (planes .entry))) ⌝ }
+{
+    let mut t = false;
+    let mut j = 0usize;
+    while j < planes.len() {
+        t = t | leans(planes, j);
+        j += 1usize;
+    }
+    !t
+}
+
+fn unit_at(planes: &[[f64; 6]], k: usize) -> Mirror
+    ensures { λ r. ⌜ r ≡ getD (mirrors (now (planes .entry))) k standIn ⌝ }
+{
+    if k < planes.len() {
+        return unit_of(planes[k]);
+    }
+    mirror([0.0; 6])
+}
+
+// The planes with their normals made of unit length.
+pub fn unit_planes(planes: &[[f64; 6]]) -> Planes
+    requires { ⌜ length (now planes) ≤ 3 ⌝ }
+    ensures { λ r. ⌜ mirrorsOf r ≡ mirrors (now (planes .entry)) ⌝ }
+{
+    Planes {
+        count: planes.len(),
+        a: unit_at(planes, 0),
+        b: unit_at(planes, 1),
+        c: unit_at(planes, 2),
+    }
+}
+
+fn reflect(on: bool, m: Mirror, p: Vec3) -> Vec3
+    ensures { λ r. ⌜ r ≡ choose on (Vectors.image m p) p ⌝ }
+{
+    if on { m.image(p) } else { p }
+}
+
+// Where p is seen under a member of the group: in its planes, the last first.
+pub fn image_of(set: usize, planes: Planes, p: Vec3) -> Vec3
+    ensures { λ r. ⌜ r ≡ imageIn (mirrorsOf planes) set p ⌝ }
+{
+    let a = planes.a;
+    let b = planes.b;
+    let c = planes.c;
+    let count = planes.count;
+    let p = reflect((2 < count) & (set / 2 / 2 % 2 == 1), c, p);
+    let p = reflect((1 < count) & (set / 2 % 2 == 1), b, p);
+    reflect((0 < count) & (set % 2 == 1), a, p)
+}

@@ -1,0 +1,11 @@
+-- `Parts`: lists that are lent in part. `Update`, `Formulas`: lengths and counts of what the formulas make.
+pub mod Parts
+pub mod Update
+pub mod Formulas
+pub mod Counts
+pub mod Verdicts
+pub mod Alike
+pub mod Whole
+pub mod Keeps
+pub mod Runs
+pub mod Demand

@@ -1,0 +1,50 @@
+-- Lists that are lent to a call, and how long they must be. Definitions only.
+use mathlib.Core.Bool.{Bool, false, _||_}
+use mathlib.Core.List.{List, [], _∷_, _++_}
+use Prim.Native.Nat.{ℕ, suc}
+use lib.ListN.{length, drop}
+use lib.Dec.{ltb}
+use Rattle.filter.specs.Build.{words}
+
+-- l with its first places those of new: "leaves places past those needed as they were lent"
+unfoldable pub overlay : {A : Type 0} → List A → List A → List A
+overlay new l = new ++ drop (length new) l
+
+-- how long each list of a call is that it may write or that an answer reads; `work` has those of the working lists
+pub record Sizes : Type 0 where
+  pub volumes : ℕ
+  pub passive : ℕ
+  pub starts : ℕ
+  pub near : ℕ
+  pub coef : ℕ
+  pub design : ℕ
+  pub density : ℕ
+  pub last : ℕ
+  pub history : ℕ
+  pub work : List ℕ
+
+-- one of the lengths is below what is needed there
+unfoldable pub short : List ℕ → List ℕ → Bool
+short (k ∷ lengths) (n ∷ needed) = ltb k n || short lengths needed
+short [] needed = false
+short (k ∷ lengths) [] = false
+
+-- "working lists as docs/ fixes them": the opening's are the filter's, an answer's are five of one place an element
+abbrev pub openWork : ℕ → List ℕ
+openWork n = n ∷ n ∷ suc n ∷ n ∷ n ∷ n ∷ n ∷ words ∷ []
+
+abbrev pub answerWork : ℕ → List ℕ
+answerWork n = n ∷ n ∷ n ∷ n ∷ n ∷ []
+
+-- "one place an element, one more for row starts", and 14: "records fewer than rounds allowed"
+unfoldable pub runShort : ℕ → ℕ → Sizes → Bool
+runShort elements rounds k = short (k .starts ∷ k .design ∷ k .density ∷ k .last ∷ k .history ∷ []) (suc elements ∷ elements ∷ elements ∷ elements ∷ rounds ∷ [])
+
+-- what an opening looks at before the rows
+unfoldable pub openShort : ℕ → ℕ → Sizes → Bool
+openShort elements rounds k = runShort elements rounds k || short (k .work) (openWork elements)
+
+-- what an answer looks at: "a row's end for neighbours and weights" is the number of entries
+unfoldable pub answerShort : ℕ → ℕ → ℕ → Sizes → Bool
+answerShort elements entries rounds k =
+    runShort elements rounds k || short (k .volumes ∷ k .passive ∷ k .near ∷ k .coef ∷ []) (elements ∷ elements ∷ entries ∷ entries ∷ []) || short (k .work) (answerWork elements)

@@ -1,0 +1,8 @@
+-- `Lent`: lists that are lent, and how long they must be. `Formulas`: a round's formulas put together as `optimize` does. `Opening`: what an
+-- opening checks. `Plain`: the plain run. `Calls`: what the contracts of `open` and `answer` state. `Runs`: what is said of every run.
+pub mod Lent
+pub mod Formulas
+pub mod Opening
+pub mod Plain
+pub mod Calls
+pub mod Runs

@@ -1,0 +1,2 @@
+-- `Laws`: the definitions by what each call gives.
+pub mod Laws

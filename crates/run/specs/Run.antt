@@ -1,0 +1,14 @@
+-- The contracts of `open` and `answer`: what they return and leave is what `plain`'s definitions give, at every input. Definitions only.
+use mathlib.Core.Path.{_≡_}
+use mathlib.Core.List.{List}
+use lib.ListN.{length}
+use Rattle.topo.specs.declared.Iteration.{Iteration}
+use Rattle.plain.specs.declared.State.{State}
+use Rattle.plain.specs.Calls.{Told, Result, answerOf}
+use Rattle.answering.specs.declared.Told.{Told as Gives}
+use Rattle.answering.specs.Answers.{Core, Work, listsOf, lengthsOf, verdictIn, worked}
+
+-- an answer: the result and every list are those of `answerOf`; `work` says what is free in the working lists
+pub record Answered (s : State) (a : Told) (l : Core) (w : Work) (h : List Iteration) (r : Gives) (o : Core) (w′ : Work) (h′ : List Iteration) : Type 0 where
+  pub same : _≡_ {A = Result} (record { state = r .state; reply = r .reply; lists = listsOf o h′ }) (answerOf s a (lengthsOf w) (listsOf l h))
+  pub work : worked (s .elements) w w′ (verdictIn s a (length h) l w)

@@ -1,0 +1,12 @@
+-- `verdict::answers::idle` meets its contract: the test, as it stands. Assumes nothing.
+use mathlib.Core.Path.{refl}
+use Rattle.plain.specs.Formulas.{idle}
+use Rattle.verdict.proofs.answers.idle.Statement.{statement}
+use Rattle.verdict.proofs.answers.idle.Tie as tie
+
+returns : tie.Need-returns
+unfolding idle
+returns c = refl
+
+pub idle-spec : {M : Type 1} → statement M
+idle-spec = tie.close (tie.spec returns)

@@ -1,0 +1,12 @@
+-- `verdict::counts::small` meets its contract: the test, as it stands. Assumes nothing.
+use mathlib.Core.Path.{refl}
+use Rattle.plain.specs.Formulas.{small}
+use Rattle.verdict.proofs.counts.small.Statement.{statement}
+use Rattle.verdict.proofs.counts.small.Tie as tie
+
+returns : tie.Need-returns
+unfolding small
+returns c = refl
+
+pub small-spec : {M : Type 1} → statement M
+small-spec = tie.close (tie.spec returns)
