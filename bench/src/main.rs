@@ -2,9 +2,12 @@
 //!
 //!     bench [REPETITIONS]
 //!
-//! Prints nanoseconds a call for each side and their ratio, ours by the Rust's: below 1 is faster. Each repetition times both sides
+//! For the leaves, prints nanoseconds a call for each side and their ratio, ours by the Rust's: below 1 is faster. Each repetition times both sides
 //! one after the other, and the best of all repetitions counts. A line "list" is one call of the library for the whole list, beside
-//! the Rust's loop as the compiler makes it; a line "calls" is one call for each element on both sides.
+//! the Rust's loop as the compiler makes it; a line "calls" is one call for each element on both sides. Then prints milliseconds a call of
+//! the filter and the update, on blocks of tetrahedra: the Rust makes its lists in each call, and the library is lent them.
+mod rounds;
+
 use std::hint::black_box;
 use std::time::Instant;
 
@@ -115,4 +118,5 @@ fn main() {
     });
     line("dist2_to_triangle, list", repetitions, |out| faces::dist2_each(black_box(&points), black_box(&corners), out), rust_inline);
     line("dist2_to_triangle, calls", repetitions, our_calls, rust_calls);
+    rounds::all(repetitions);
 }

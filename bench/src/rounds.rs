@@ -1,0 +1,141 @@
+//! The filter and the update on blocks of tetrahedra.
+use std::hint::black_box;
+use std::time::Instant;
+
+use crate::Random;
+use sokdrib::oc::{self, Aim, Next, Rule, Seen};
+use sokdrib::table::Table;
+use tenon::mesh::TetMesh;
+use tenon::stand_ins::ended;
+use tenon::topo::oc as original;
+use tenon::topo::{Design, Filter, MOVE, Mirror, level_of};
+use tenon::{Vec3, topo};
+
+/// Cells of a block, each six tetrahedra: about 1,000, 8,000 and 64,000 of them.
+const BLOCKS: [[usize; 3]; 3] = [[5, 6, 6], [11, 11, 11], [22, 22, 22]];
+/// In cells.
+const RADIUS: f64 = 1.5;
+/// How long each side of a line is timed for at least.
+const SECONDS: f64 = 0.3;
+
+/// Best seconds of each side, one after the other until both were timed long enough, `repetitions` times at most.
+fn best(repetitions: usize, mut ours: impl FnMut(), mut rust: impl FnMut()) -> (f64, f64) {
+    let time = |f: &mut dyn FnMut()| {
+        let began = Instant::now();
+        f();
+        began.elapsed().as_secs_f64()
+    };
+    let (mut least, mut spent, mut done) = ((f64::INFINITY, f64::INFINITY), 0.0, 0);
+    while done < 3 || (done < repetitions && spent < SECONDS) {
+        let (a, b) = (time(&mut ours), time(&mut rust));
+        least = (least.0.min(a), least.1.min(b));
+        spent += a.min(b);
+        done += 1;
+    }
+    least
+}
+
+fn line(name: &str, note: &str, (ours, rust): (f64, f64)) {
+    println!("{name:<40} {:>10.3} ms {:>10.3} ms {:>7.2}  {note}", ours * 1e3, rust * 1e3, ours / rust);
+}
+
+fn grouped(n: usize) -> String {
+    if n < 1000 { n.to_string() } else { format!("{},{:03}", n / 1000, n % 1000) }
+}
+
+struct Block {
+    design: Design,
+    /// Energies that fall off from one corner, with some noise.
+    weights: Vec<f64>,
+}
+
+impl Block {
+    fn new(cells: [usize; 3]) -> Block {
+        let mesh = TetMesh::block(cells, Vec3::new(cells[0] as f64, cells[1] as f64, cells[2] as f64));
+        let mut random = Random(0x9e37_79b9_7f4a_7c15);
+        let centroids: Vec<Vec3> = mesh.tets.iter().map(|t| mesh.centroid(t)).collect();
+        Block {
+            weights: centroids.iter().map(|c| (0.5 + random.unit()) / (1.0 + c.len2())).collect(),
+            design: Design {
+                volumes: mesh.tets.iter().map(|t| mesh.volume(t)).collect(),
+                passive: centroids.iter().map(|c| c.z < 0.3).collect(),
+                centroids,
+            },
+        }
+    }
+}
+
+pub fn all(repetitions: usize) {
+    println!("\n{:<40} {:>13} {:>13} {:>7}", "best of each side", "ours", "Rust", "ratio");
+    for cells in BLOCKS {
+        let block = Block::new(cells);
+        let mut plain = None;
+        for planes in 0..2 {
+            let middle = Mirror { point: Vec3::new(cells[0] as f64 / 2.0, 0.0, 0.0), normal: Vec3::new(1.0, 0.0, 0.0) };
+            let filter = table(repetitions, &block, &[middle][..planes]);
+            products(repetitions, &block, planes, &filter);
+            plain.get_or_insert(filter);
+        }
+        if let Some(filter) = plain {
+            updates(repetitions, &block, &filter);
+        }
+    }
+}
+
+fn table(_repetitions: usize, block: &Block, mirrors: &[Mirror]) -> Filter {
+    Filter::new(&block.design.centroids, &block.design.volumes, RADIUS, mirrors).unwrap_or_default()
+}
+
+fn lists(filter: &Filter) -> Table<'_> {
+    Table { starts: &filter.start, near: &filter.near, coef: &filter.coef }
+}
+
+fn products(repetitions: usize, block: &Block, planes: usize, filter: &Filter) {
+    let n = block.weights.len();
+    let name = |what| format!("{what}, {} elements, {planes} planes", grouped(n));
+    let entries = format!("{} entries", filter.near.len());
+    let mut out = vec![0.0; n];
+    let ours = || lists(filter).apply(black_box(&block.weights), black_box(&mut out));
+    line(&name("apply"), &entries, best(repetitions, ours, || drop(black_box(filter.apply(black_box(&block.weights))))));
+    let ours = || lists(filter).back(black_box(&block.weights), black_box(&mut out));
+    line(&name("back"), &entries, best(repetitions, ours, || drop(black_box(filter.back(black_box(&block.weights))))));
+}
+
+/// The first update of a run, unsharpened, and one sharpened at each steepness.
+fn updates(repetitions: usize, block: &Block, filter: &Filter) {
+    let Design { volumes, passive, .. } = &block.design;
+    let n = volumes.len();
+    let t = lists(filter);
+    let [mut x, mut free, mut density, mut slope, mut own, mut dc, mut dv, mut next, mut gain, mut work] =
+        std::array::from_fn(|_| vec![0.0; n]);
+    let Ok(start) = oc::start(volumes, passive, 0.4, &mut x, &mut free) else { return };
+    for beta in [None, Some(1.0), Some(4.0), Some(16.0)] {
+        let mut sure = oc::see(t, passive, &x, beta, Seen { density: &mut density, slope: &mut slope }).is_ok();
+        let energies: Vec<f64> = block.weights.iter().zip(&density).map(|(w, v)| w / (2.0 * topo::modulus(level_of(*v), 1.0))).collect();
+        sure &= oc::work_slope(t, passive, &density, &slope, &energies, &mut own, &mut dc).is_ok();
+        sure &= oc::volume_slope(t, &slope, &free, &mut own, &mut dv).is_ok();
+        let rule = beta.map_or(Rule::Straight(start.solid), Rule::Sharpened);
+        let m = MOVE / beta.unwrap_or(1.0).sqrt();
+        let aim = Aim { dc: &dc, dv: &dv, m, target: start.target, tolerance: start.tolerance, rule };
+        let mut rust = Vec::new();
+        let times = best(
+            repetitions,
+            || {
+                let next = Next { design: &mut next, gain: &mut gain, work: &mut work };
+                sure &= oc::update(black_box(&x), aim, t, volumes, passive, next).is_ok();
+            },
+            || {
+                let mut kept = |y: &[f64]| match beta {
+                    None => start.solid + original::dot(&dv, y),
+                    beta => original::kept(filter, &block.design, y, beta),
+                };
+                rust = original::update(black_box(&x), &dc, &dv, passive, m, start.target, start.tolerance, &mut kept);
+            },
+        );
+        assert!(sure && rust == next, "both sides give the same design");
+        let name = beta.map_or("update, unsharpened".into(), |b| format!("update, steepness {b}"));
+        line(&format!("{name}, {} elements", grouped(n)), &format!("{} passes", ended().passes), times);
+        // The next steepness goes on from here.
+        x.copy_from_slice(&next);
+    }
+}
