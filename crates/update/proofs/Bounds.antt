@@ -3,28 +3,25 @@
 use mathlib.Core.Path.{_≡_, refl, sym, ap, _∙_, subst}
 use mathlib.Core.Bool.{Bool, true, false, not}
 use mathlib.Core.List.{List}
-use Prim.Native.Nat.{ℕ, zero, suc, _-_, _*_, _<_}
+use Prim.Native.Nat.{ℕ, zero, suc, _+_, _-_, _*_, _≤_, _<_}
 use native.Mathlib.Nat.{add-comm, mul-comm}
+use native.Mathlib.Omega.{arith}
 use lib.Dec.{T}
 use lib.ListN.{length, getD}
 use lib.Ieee.{Float, nan, inf, fin, Format, binary64, up, down, round, sum, isNan, le, fits, add, sub, ofBits}
 use lib.Ieee.Positive.{positive, between}
+use Rattle.lists.specs.Lists.{tabulate, choose}
 use Rattle.lists.proofs.Laws.{getD-tabulate, choose-true, choose-false}
 use Rattle.ieee.specs.Basic.{one64, maxOf, minOf}
 use Rattle.ieee.proofs.Order.{le-number, le-transitive}
 use Rattle.ieee.proofs.Bounds.{max-either, min-either, max-left, max-right, min-left, min-right, raised-lowered, add-above, sub-below}
 use Rattle.oc.specs.Start.{xMin}
-use Rattle.update.specs.Design.{limited, nextOf, designAt}
-use Rattle.update.specs.Update.{Given, Stand, trial, first, raises, raised, halves, halved, whileTo, raisedAll, updated}
+use Rattle.update.proofs.Order.{number-left}
+use Rattle.update.specs.Design.{grown, limited, nextOf, designAt}
+use Rattle.update.specs.Steps.{lowest}
+use Rattle.update.specs.Update.{Given, Stand, trial, reckoned, first, raises, raised, halves, halved, whileTo, raisedAll, updated}
 
 -- ---- general
-
--- what is at most something is a number
-number-left : (x y : Float) → T (le x y) → T (not (isNan x))
-unfolding le isNan
-number-left nan y h = absurd h
-number-left (inf s) y h = tt
-number-left (fin s m e) y h = tt
 
 commutes : (f : Format) (x y : Float) → T (positive x) → T (positive y) → add f y x ≡ add f x y
 unfolding add sum
@@ -43,11 +40,7 @@ add-above-right f x y t p q = subst (λ (z : Float). T (le y z)) (commutes f x y
 
 -- ---- one element
 
--- one rounding below 0.001
-abbrev pub lowest : Float
-lowest = ofBits binary64 0x3f50_624d_d2f1_a9fb
-
--- 01: "The starting density may be one rounding below 0.001; updates never are."
+-- a value that a design can have before an update
 pub record Old (x : Float) : Type 0 where
   pub fit : T (fits binary64 x)
   pub least : T (le lowest x)
@@ -67,7 +60,7 @@ pub record Bounded (old m v : Float) : Type 0 where
   pub up : T (le v (add binary64 old m))
 
 module _ (old m : Float) (o : Old old) (k : Move m) where
-  old-positive : T (positive old)
+  pub old-positive : T (positive old)
   unfolding ofBits
   old-positive = between lowest old one64 tt tt (o .least) (o .most)
 
@@ -75,10 +68,10 @@ module _ (old m : Float) (o : Old old) (k : Move m) where
   unfolding ofBits
   move-positive = between xMin m one64 tt tt (k .least) (k .most)
 
-  abbrev lo : Float
+  abbrev pub lo : Float
   lo = maxOf (sub binary64 old m) xMin
 
-  abbrev hi : Float
+  abbrev pub hi : Float
   hi = minOf (add binary64 old m) one64
 
   under-old : T (le (sub binary64 old m) old)
@@ -94,13 +87,13 @@ module _ (old m : Float) (o : Old old) (k : Move m) where
   unfolding le ofBits
   min-one = tt
 
-  bounds : T (le lo hi)
+  pub bounds : T (le lo hi)
   bounds =
       max-either (λ z. T (le z hi)) (sub binary64 old m) xMin
       (min-either (λ z. T (le (sub binary64 old m) z)) (add binary64 old m) one64 (le-transitive (sub binary64 old m) old (add binary64 old m) under-old over-old) (le-transitive (sub binary64 old m) old one64 under-old (o .most)))
       (min-either (λ z. T (le xMin z)) (add binary64 old m) one64 over-least min-one)
 
-  least-lo : T (le xMin lo)
+  pub least-lo : T (le xMin lo)
   least-lo = max-right (sub binary64 old m) xMin (number-left xMin one64 min-one)
 
   pub limited-bounded : (v : Float) → Bounded old m (limited old m v)

@@ -26,7 +26,7 @@ module _ {A : Type 0} (p : A → Bool) (f : A → A) where
   unfolding whileTo
   while-on n s e = rw (e, whileTo)
 
-  while-off : (n : ℕ) (s : A) → p s ≡ false → whileTo p f n s ≡ s
+  pub while-off : (n : ℕ) (s : A) → p s ≡ false → whileTo p f n s ≡ s
   unfolding whileTo
   while-off zero s e = refl
   while-off (suc n) s e = rw (e, whileTo)
@@ -48,7 +48,7 @@ module _ {A : Type 0} (p : A → Bool) (f : A → A) where
       none most k h l = omega arith
   while-over most k s false e h g = while-off (most - k) s (g refl)
 
-and-false : (a b : Bool) → a ≡ false → (a && b) ≡ false
+pub and-false : (a b : Bool) → a ≡ false → (a && b) ≡ false
 and-false a b e = rw e
 
 and-true : (a b : Bool) → a ≡ true → b ≡ true → (a && b) ≡ true

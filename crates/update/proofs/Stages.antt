@@ -1,6 +1,6 @@
 -- An update by what each of its stages gave. Assumes nothing.
-use mathlib.Core.Path.{_≡_, sym, ap, _∙_, subst}
-use mathlib.Core.Bool.{true, false, not, _&&_}
+use mathlib.Core.Path.{_≡_, refl, sym, ap, _∙_, subst}
+use mathlib.Core.Bool.{Bool, true, false, not, _&&_}
 use mathlib.Core.List.{List}
 use Prim.Native.Nat.{ℕ, _-_}
 use lib.Dec.{eqb}
@@ -13,7 +13,8 @@ use Rattle.update.specs.declared.Rates.{Rates}
 use Rattle.update.specs.declared.Updated.{Updated}
 use Rattle.update.specs.declared.Ending.{Ending}
 use Rattle.update.specs.declared.Ending.the-variants.{Met, Cramped, Spent}
-use Rattle.update.specs.Update.{Given, Stand, trial, reckoned, firstRate, first, raises, raised, halves, halved, whileTo, raisedAll, updated, met, spent, endingOf, Done, standing}
+use Rattle.update.specs.Update.{Given, Stand, trial, reckoned, firstRate, first, raises, raised, halves, halved, whileTo, raisedAll, updated, met, spent, endingOf, Done}
+use Rattle.update.specs.Steps.{standing}
 
 -- ---- how it ends
 module _ (target tolerance low high kept off : Float) (passes : ℕ) (o : off ≡ absOf (sub binary64 kept target)) where
@@ -37,24 +38,27 @@ module _ (target tolerance low high kept off : Float) (passes : ℕ) (o : off �
   unfolding spent
   ended-cramped h n e = unmet _ h (sym (choose-false (spent kept passes) _ _ (rw (n, ne-eqb passes 200 e))))
 
--- ---- the whole
-pub done : (g : Given) (rate kept : Float) (y d d' : List Float) (up at : Rates) (r : Updated)
+-- ---- the whole, every volume reckoned
+pub stages : (g : Given) (rate kept : Float) (y d d' : List Float) (up at : Rates)
     → rate ≡ firstRate g → y ≡ trial g rate → kept ≡ reckoned g y
     → standing up d ≡ whileTo (raises g) (raised g) 199 (record { low = zero64; high = rate; design = y; kept = kept; passes = 1 })
     → standing at d' ≡ whileTo (halves g) (halved g) (200 - up .passes) (standing up d)
-    → r .passes ≡ at .passes → r .ending ≡ endingOf (g .target) (g .tolerance) (at .low) (at .high) (at .kept) (at .passes)
-    → Done g r d'
+    → standing at d' ≡ updated g
 unfolding first raisedAll updated
-done g rate kept y d d' up at r a b c u h p e =
+stages g rate kept y d d' up at a b c u h =
     let w : y ≡ trial g (firstRate g) = b ∙ ap (trial g) a in
     let f : _≡_ {A = Stand} (record { low = zero64; high = rate; design = y; kept = kept; passes = 1 }) (first g) = λ i. record { low = zero64; high = a i; design = w i; kept = (c ∙ ap (reckoned g) w) i; passes = 1 } in
     let v : standing up d ≡ raisedAll g = u ∙ ap (whileTo (raises g) (raised g) 199) f in
-    let s : standing at d' ≡ updated g = h ∙ (λ i. whileTo (halves g) (halved g) (200 - v i .passes) (v i)) in
-    record {
-      design-is = ap (λ (t : Stand). t .design) s;
-      passes-is = p ∙ ap (λ (t : Stand). t .passes) s;
-      ending-is = e ∙ ap (λ (t : Stand). endingOf (g .target) (g .tolerance) (t .low) (t .high) (t .kept) (t .passes)) s;
-    }
+    h ∙ (λ i. whileTo (halves g) (halved g) (200 - v i .passes) (v i))
+
+-- ---- what it leaves
+pub done : (g : Given) (at : Rates) (d : List Float) (r : Updated) → standing at d ≡ updated g → r .passes ≡ at .passes
+    → r .ending ≡ endingOf (g .target) (g .tolerance) (at .low) (at .high) (at .kept) (at .passes) → Done g r d
+done g at d r s p e = record {
+  design-is = ap (λ (t : Stand). t .design) s;
+  passes-is = p ∙ ap (λ (t : Stand). t .passes) s;
+  ending-is = e ∙ ap (λ (t : Stand). endingOf (g .target) (g .tolerance) (t .low) (t .high) (t .kept) (t .passes)) s;
+}
 
 -- the gains may be written as they are worked out
 pub gain-is : (g : List Float → Given) (gain gain' : List Float) → gain ≡ gain' → (r : Updated) (d : List Float) → Done (g gain) r d → Done (g gain') r d

@@ -11,7 +11,6 @@ use Rattle.oc.specs.declared.kept.Rule.{Rule}
 use Rattle.oc.specs.Kept.{keptOf}
 use Rattle.oc.specs.Project.{half}
 use Rattle.oc.specs.Record.{two64}
-use Rattle.update.specs.declared.Rates.{Rates}
 use Rattle.update.specs.declared.Updated.{Updated}
 use Rattle.update.specs.declared.Ending.{Ending}
 use Rattle.update.specs.declared.Ending.the-variants.{Met, Cramped, Spent}
@@ -35,6 +34,10 @@ pub record Given : Type 0 where
   pub near : List ℕ
   pub coef : List Float
   pub volumes : List Float
+
+abbrev pub given : List Float → List Float → List Float → List Bool → Float → Float → Float → Rule → List ℕ → List ℕ → List Float → List Float → Given
+given x gain dv passive move target tolerance rule starts near coef volumes =
+    record { x = x; gain = gain; dv = dv; passive = passive; move = move; target = target; tolerance = tolerance; rule = rule; starts = starts; near = near; coef = coef; volumes = volumes }
 
 -- where it stands: its bracket of rates, the design at the last rate tried, the volume which that keeps, and how many rates were tried
 pub record Stand : Type 0 where
@@ -118,7 +121,3 @@ pub record Done (g : Given) (r : Updated) (design : List Float) : Type 0 where
   pub design-is : design ≡ updated g .design
   pub passes-is : r .passes ≡ updated g .passes
   pub ending-is : let s = updated g in r .ending ≡ endingOf (g .target) (g .tolerance) (s .low) (s .high) (s .kept) (s .passes)
-
--- the code's account of where an update stands, with the design beside it
-abbrev pub standing : Rates → List Float → Stand
-standing r design = record { low = r .low; high = r .high; design = design; kept = r .kept; passes = r .passes }

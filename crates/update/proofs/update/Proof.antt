@@ -1,17 +1,20 @@
--- `update::update` meets its contract by those of its stages (`proofs/Stages.antt`). Assumes nothing.
-use mathlib.Core.Path.{refl, sym, ap, _∙_}
+-- `update::update` meets its contract by those of its two ways (`proofs/Stages.antt`). Assumes nothing.
+use mathlib.Core.Path.{_≡_, refl, sym, ap, _∙_}
 use mathlib.Core.List.{List}
-use lib.Dec.{lit≤}
+use lib.ListN.{length}
 use lib.Ieee.{Float, lt, binary64, mul}
 use denote.Ref.{now}
 use Rattle.lists.specs.Lists.{choose, zero64}
 use Rattle.ieee.specs.Basic.{one64}
-use Rattle.update.specs.Update.{tenThousand, Given, trial, reckoned, firstRate}
-use Rattle.update.proofs.Loops.{wf-at}
+use Rattle.update.specs.Update.{tenThousand, Given, given, firstRate}
 use Rattle.update.proofs.Stages.{done, gain-is}
 use borrow.Author.Needs.{needs}
 use Rattle.update.proofs.update.Statement.{statement}
 use Rattle.update.proofs.update.Tie as tie
+
+-- the first rate, by the greatest gain
+abbrev rated : Float → Float
+rated most = choose (lt zero64 most) (mul binary64 tenThousand most) one64
 
 gains-requires : tie.Need-gains-requires
 gains-requires c κs = search needs
@@ -22,61 +25,56 @@ most-requires c κs = search needs
 first-rate-requires : tie.Need-first-rate-requires
 first-rate-requires c κs = search needs
 
-tested-requires : tie.Need-tested-requires
-tested-requires c κs = search needs
-
-design-at-requires : tie.Need-design-at-requires
-design-at-requires c κs = search needs
-
-kept-requires : tie.Need-kept-requires
-kept-requires c κs =
-    let p = c .before .before .before .before .before .before .before .before .before .before .before .before .before .before .before .before .before .before .before .before .before .before .before .before .before .before .pre in
-    let d = c .before .before .before .before .«design-at» .kept .1 .1 .1 .1 .1 .0 ∙ p .3 in
-    (p .5 ∙ sym (p .2), λ e. wf-at _ _ _ _ _ _ _ (sym (p .5)) (sym d) (c .before .before .before .before .before .before .before .tested .ensures e))
-
-raise-requires : tie.Need-raise-requires
-raise-requires c κs =
-    let p = c .before .before .before .before .before .before .before .before .before .before .before .before .before .before .before .before .before .before .before .before .before .before .before .before .before .before .before .before .before .before .before .before .pre in
-    let d = c .before .before .before .before .before .before .before .before .before .before .«design-at» .kept .1 .1 .1 .1 .1 .0 ∙ p .3 in
-    let n = c .before .before .before .before .before .before .before .before .before .before .before .before .before .before .before .before .before .before .before .gains .kept .1 .1 .0 ∙ p .4 in
-    let w = c .before .before .before .before .before .kept .kept .1 .1 .1 .1 .1 .1 .1 .1 .1 .0 ∙ p .5 in
-    ((n, p .1, p .2, d, w), (c .before .before .before .before .before .before .before .before .before .before .before .before .before .tested .ensures, lit≤ tt))
-
-halve-requires : tie.Need-halve-requires
-halve-requires c κs =
-    let p = c .before .before .before .before .before .before .before .before .before .before .before .before .before .before .before .before .before .before .before .before .before .before .before .before .before .before .before .before .before .before .before .before .before .before .before .before .before .before .before .before .pre in
-    let r = c .before .before .before .before .before .before .before .raise .kept .1 .1 .1 .1 .1 .1 .1 .1 .1 .1 .1 .1 .1 .1 in
-    let d = r .0 ∙ c .before .before .before .before .before .before .before .before .before .before .before .before .before .before .before .before .before .before .«design-at» .kept .1 .1 .1 .1 .1 .0 ∙ p .3 in
-    let n = c .before .before .before .before .before .before .before .before .before .before .before .before .before .before .before .before .before .before .before .before .before .before .before .before .before .before .before .gains .kept .1 .1 .0 ∙ p .4 in
-    let w = r .1 .0 ∙ c .before .before .before .before .before .before .before .before .before .before .before .before .before .kept .kept .1 .1 .1 .1 .1 .1 .1 .1 .1 .0 ∙ p .5 in
-    ((n, p .1, p .2, d, w), (c .before .before .before .before .before .before .before .before .before .before .before .before .before .before .before .before .before .before .before .before .before .tested .ensures, c .before .before .before .before .before .before .before .raise .ensures .1))
+quick-requires : tie.Need-quick-requires
+unfolding firstRate
+quick-requires c κs =
+    let p = c .before .before .before .before .before .before .before .before .before .before .before .before .before .before .before .before .before .before .before .before .before .pre in
+    ((c .before .before .before .before .before .before .before .before .gains .kept .1 .1 .0 ∙ p .4, p .1, p .2, p .3, p .5), c .before .before .before .«first-rate» .ensures ∙ ap rated (c .before .before .before .before .most .ensures))
 
 ended-requires : tie.Need-ended-requires
 ended-requires c κs = search needs
 
 same-length : tie.Need-same-length
-same-length c =
-    let r = c .before .before .before .before .before .before .before .before .before .before .before .before .before .raise .kept .1 .1 .1 .1 .1 .1 .1 .1 .1 .1 .1 .1 .1 .1 in
-    let h = c .before .before .before .before .before .halve .kept .1 .1 .1 .1 .1 .1 .1 .1 .1 .1 .1 .1 .1 .1 in
-    h .0 ∙ r .0 ∙ c .before .before .before .before .before .before .before .before .before .before .before .before .before .before .before .before .before .before .before .before .before .before .before .before .«design-at» .kept .1 .1 .1 .1 .1 .0
+same-length c = c .before .before .before .before .before .before .quick .kept .1 .1 .1 .1 .1 .1 .1 .1 .1 .1 .1 .1 .1 .0
 
 same-length-2 : tie.Need-same-length-2
-same-length-2 c = c .before .before .before .before .before .before .before .before .before .before .before .before .before .before .before .before .before .before .before .before .before .before .before .before .before .before .before .before .before .before .before .before .before .gains .kept .1 .1 .0
+same-length-2 c = c .before .before .before .before .before .before .before .before .before .before .before .before .before .before .before .gains .kept .1 .1 .0
 
 same-length-3 : tie.Need-same-length-3
-same-length-3 c =
-    let r = c .before .before .before .before .before .before .before .before .before .before .before .before .before .raise .kept .1 .1 .1 .1 .1 .1 .1 .1 .1 .1 .1 .1 .1 .1 in
-    let h = c .before .before .before .before .before .halve .kept .1 .1 .1 .1 .1 .1 .1 .1 .1 .1 .1 .1 .1 .1 in
-    h .1 .0 ∙ r .1 .0 ∙ c .before .before .before .before .before .before .before .before .before .before .before .before .before .before .before .before .before .before .before .kept .kept .1 .1 .1 .1 .1 .1 .1 .1 .1 .0
+same-length-3 c = c .before .before .before .before .before .before .quick .kept .1 .1 .1 .1 .1 .1 .1 .1 .1 .1 .1 .1 .1 .1 .0
 
 returns : tie.Need-returns
-unfolding trial reckoned firstRate
 returns c =
-    let a = c .before .before .before .before .before .before .before .before .before .before .before .before .before .before .before .before .before .before .before .before .before .before .before .before .before .before .before .before .before .before .before .before .before .before .before .before .before .before .before .before .before .before .before .before .before .before .args in
-    let gl = c .before .before .before .before .before .before .before .before .before .before .before .before .before .before .before .before .before .before .before .before .before .before .before .before .before .before .before .before .before .before .before .before .before .gains .last .1 .1 .0 in
-    let g : List Float → Given = λ gain. record { x = now (a .x); gain = gain; dv = now (a .dv); passive = now (a .passive); move = a .m; target = a .target; tolerance = a .tolerance; rule = a .rule; starts = now (a .starts); near = now (a .near); coef = now (a .coef); volumes = now (a .volumes) } in
-    let rate = c .before .before .before .before .before .before .before .before .before .before .before .before .before .before .before .before .before .before .before .before .before .before .before .before .before .before .before .before .«first-rate» .ensures ∙ ap (λ (v : Float). choose (lt zero64 v) (mul binary64 tenThousand v) one64) (c .before .before .before .before .before .before .before .before .before .before .before .before .before .before .before .before .before .before .before .before .before .before .before .before .before .before .before .before .before .most .ensures) in
-    gain-is g gl _ (c .before .before .before .before .before .before .before .before .before .before .before .before .before .before .before .before .before .before .before .before .before .before .before .before .before .before .before .before .before .before .before .before .before .gains .ensures) _ _ (done (g gl) _ _ _ _ _ _ _ _ rate (c .before .before .before .before .before .before .before .before .before .before .before .before .before .before .before .before .before .before .before .before .before .before .before .before .«design-at» .ensures) (c .before .before .before .before .before .before .before .before .before .before .before .before .before .before .before .before .before .before .before .kept .ensures) (c .before .before .before .before .before .before .before .before .before .before .before .before .before .raise .ensures .0) (c .before .before .before .before .before .halve .ensures) refl (c .ended .ensures))
+    let a = c .before .before .before .before .before .before .before .before .before .before .before .before .before .before .before .before .before .before .before .before .before .before .before .before .before .before .before .before .args in
+    let gl = c .before .before .before .before .before .before .before .before .before .before .before .before .before .before .before .gains .last .1 .1 .0 in
+    let g : List Float → Given = λ gain. given (now (a .x)) gain (now (a .dv)) (now (a .passive)) (a .m) (a .target) (a .tolerance) (a .rule) (now (a .starts)) (now (a .near)) (now (a .coef)) (now (a .volumes)) in
+    gain-is g gl _ (c .before .before .before .before .before .before .before .before .before .before .before .before .before .before .before .gains .ensures) _ _ (done (g gl) (c .before .before .before .before .before .before .quick .result) _ _ (c .before .before .before .before .before .before .quick .ensures (c .before .if1 .taken)) refl (c .ended .ensures))
+
+every-requires : tie.Need-every-requires
+unfolding firstRate
+every-requires c κs =
+    let p = c .before .before .before .before .before .before .before .before .before .before .before .before .before .before .before .before .before .before .before .before .before .before .before .before .before .before .before .before .before .before .pre in
+    let q = c .before .before .before .before .before .before .before .before .quick .kept .1 .1 .1 .1 .1 .1 .1 .1 .1 .1 .1 .1 .1 in
+    ((c .before .before .before .before .before .before .before .before .before .before .before .before .before .before .before .before .before .gains .kept .1 .1 .0 ∙ p .4, p .1, p .2, q .0 ∙ p .3, q .1 .0 ∙ p .5), c .before .before .before .before .before .before .before .before .before .before .before .before .«first-rate» .ensures ∙ ap rated (c .before .before .before .before .before .before .before .before .before .before .before .before .before .most .ensures))
+
+ended-requires-2 : tie.Need-ended-requires-2
+ended-requires-2 c κs = search needs
+
+same-length-4 : tie.Need-same-length-4
+same-length-4 c = c .before .before .before .before .before .every .kept .1 .1 .1 .1 .1 .1 .1 .1 .1 .1 .1 .1 .1 .0 ∙ c .before .before .before .before .before .before .before .before .before .before .before .before .before .before .quick .kept .1 .1 .1 .1 .1 .1 .1 .1 .1 .1 .1 .1 .1 .0
+
+same-length-5 : tie.Need-same-length-5
+same-length-5 c = c .before .before .before .before .before .before .before .before .before .before .before .before .before .before .before .before .before .before .before .before .before .before .before .gains .kept .1 .1 .0
+
+same-length-6 : tie.Need-same-length-6
+same-length-6 c = c .before .before .before .before .before .every .kept .1 .1 .1 .1 .1 .1 .1 .1 .1 .1 .1 .1 .1 .1 .0 ∙ c .before .before .before .before .before .before .before .before .before .before .before .before .before .before .quick .kept .1 .1 .1 .1 .1 .1 .1 .1 .1 .1 .1 .1 .1 .1 .0
+
+returns-2 : tie.Need-returns-2
+returns-2 c =
+    let a = c .before .before .before .before .before .before .before .before .before .before .before .before .before .before .before .before .before .before .before .before .before .before .before .before .before .before .before .before .before .before .before .before .before .before .before .before .args in
+    let gl = c .before .before .before .before .before .before .before .before .before .before .before .before .before .before .before .before .before .before .before .before .before .before .before .gains .last .1 .1 .0 in
+    let g : List Float → Given = λ gain. given (now (a .x)) gain (now (a .dv)) (now (a .passive)) (a .m) (a .target) (a .tolerance) (a .rule) (now (a .starts)) (now (a .near)) (now (a .coef)) (now (a .volumes)) in
+    gain-is g gl _ (c .before .before .before .before .before .before .before .before .before .before .before .before .before .before .before .before .before .before .before .before .before .before .before .gains .ensures) _ _ (done (g gl) (c .before .before .before .before .before .every .result) _ _ (c .before .before .before .before .before .every .ensures) refl (c .ended2 .ensures))
 
 pub update-spec : {M : Type 1} → statement M
 update-spec =
@@ -85,13 +83,15 @@ update-spec =
     gains-requires
     most-requires
     first-rate-requires
-    tested-requires
-    design-at-requires
-    kept-requires
-    raise-requires
-    halve-requires
+    quick-requires
     ended-requires
     same-length
     same-length-2
     same-length-3
-    returns)
+    returns
+    every-requires
+    ended-requires-2
+    same-length-4
+    same-length-5
+    same-length-6
+    returns-2)

@@ -1,0 +1,50 @@
+-- `update::quick::quick` meets its contract by that of `straight`; sharpening is left to `every`. Assumes nothing.
+use mathlib.Core.Path.{_≡_, sym, ap, _∙_}
+use native.Mathlib.Omega.{arith}
+use denote.Ref.{now}
+use Rattle.oc.specs.declared.kept.Rule.{Rule}
+use Rattle.update.specs.Update.{given, firstRate, updated}
+use Rattle.update.proofs.Search.{first-same, updated-same}
+use borrow.Author.Needs.{needs}
+use Rattle.update.proofs.quick.quick.Statement.{statement}
+use Rattle.update.proofs.quick.quick.Tie as tie
+
+enum-known-rule : tie.Need-enum-known-rule
+enum-known-rule c = search needs
+
+straight-requires : tie.Need-straight-requires
+straight-requires c κs =
+    let a = c .before .before .before .before .before .before .before .before .before .before .before .before .before .before .before .args in
+    let p = c .before .before .before .before .before .before .before .before .before .before .before .before .before .before .before .pre in
+    let is = ap (λ (r : Rule). firstRate (given (now (a .x)) (now (a .gain)) (now (a .dv)) (now (a .passive)) (a .m) (a .target) (a .tolerance) r (now (a .starts)) (now (a .near)) (now (a .coef)) (now (a .volumes)))) (c .before .before .before .rule .given .1) in
+    (p .0, p .1 ∙ is ∙ first-same _ _ _ _ _ _ _ _ _ _ _ _)
+
+enum-told : tie.Need-enum-told
+enum-told c = search needs
+
+same-length : tie.Need-same-length
+same-length c = search needs
+
+same-length-2 : tie.Need-same-length-2
+same-length-2 c = search needs
+
+returns : tie.Need-returns
+returns c =
+    let a = c .before .before .before .before .before .before .before .before .before .before .before .before .before .before .before .before .before .before .before .before .args in
+    let is = ap (λ (r : Rule). updated (given (now (a .x)) (now (a .gain)) (now (a .dv)) (now (a .passive)) (a .m) (a .target) (a .tolerance) r (now (a .starts)) (now (a .near)) (now (a .coef)) (now (a .volumes)))) (c .before .before .before .before .before .before .before .before .rule .given .1) in
+    λ h. c .before .before .before .before .straight .ensures h ∙ updated-same _ _ _ _ _ _ _ _ _ _ _ _ ∙ sym is
+
+returns-2 : tie.Need-returns-2
+returns-2 c = λ h. absurd (omega arith)
+
+pub quick-spec : {M : Type 1} → statement M
+quick-spec =
+    tie.close
+    (tie.spec
+    enum-known-rule
+    straight-requires
+    enum-told
+    same-length
+    same-length-2
+    returns
+    returns-2)
