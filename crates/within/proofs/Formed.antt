@@ -2,10 +2,9 @@
 -- Assumes nothing.
 use mathlib.Core.Path.{_≡_, refl, sym, ap, _∙_}
 use mathlib.Core.Logic.{⊎-elim}
-use mathlib.Core.List.{List, [], _∷_, _++_}
+use mathlib.Core.List.{List, _++_}
 use Prim.Native.Nat.{ℕ, zero, suc, _+_, _-_, _≤_, _<_}
 use native.Mathlib.Nat.{not-suc-le-zero, eq-or-lt-of-le}
-use native.Mathlib.Numerals.{add-one}
 use native.Mathlib.Omega.{arith}
 use lib.ListN.{length, getD, drop, length-append, List·getD-append}
 use lib.Seq.{getD-append-add}
@@ -17,7 +16,7 @@ use Rattle.lists.proofs.Laws.{length-tabulate, getD-tabulate, choose-false}
 use Rattle.table.specs.Table.{Wf}
 use Rattle.cells.proofs.Walks.{le-or-lt}
 use Rattle.filter.specs.Filter.{joined, met, columns, neighbours, start, coefficients}
-use Rattle.filter.specs.Build.{Lent, Outcome, kept, zeroed, built, numberOf, laid, rowsRefusal, early, outcome, Built}
+use Rattle.filter.specs.Build.{Lent, kept, zeroed, built, numberOf, laid, rowsRefusal, early, outcome, Built}
 use Rattle.filter.proofs.Chosen.{chosen-rising}
 use Rattle.filter.proofs.Table.{start-more, length-coefficients}
 
