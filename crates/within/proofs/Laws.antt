@@ -12,7 +12,7 @@ use Rattle.lists.specs.Lists.{tabulate, overwrite, choose, zero64}
 use Rattle.lists.proofs.Laws.{length-tabulate, overwrite-is, choose-true, choose-false, passes-on, neither}
 use Rattle.filter.specs.Filter.{start}
 use Rattle.filter.specs.Build.{Lent, kept, zeroed, built, laid, rowsRefusal, shortOf, early, outcome, Built}
-use Rattle.filter.specs.Steps.{Filled, Roomy, Past}
+use Rattle.rows.specs.Steps.{Filled, Roomy, Past}
 use Rattle.within.specs.Wiped.{Wiped}
 use Rattle.within.specs.Steps.{shortBy, earlyBy}
 

@@ -91,23 +91,23 @@ pub fn wipe_work(
 )
     ensures { λ _. ⌜ Wiped (now (cell .entry)) (now (order .entry)) (now (first .entry)) (now (sorted .entry)) (now (stamp .entry)) (now (weight .entry)) (now (found .entry)) (now (bits .entry)) (now (cell .exit)) (now (order .exit)) (now (first .exit)) (now (sorted .exit)) (now (stamp .exit)) (now (weight .exit)) (now (found .exit)) (now (bits .exit)) ⌝ }
 {
-    filter::zero::cubes(cell);
-    filter::zero::words(order);
-    filter::zero::words(first);
-    filter::zero::points(sorted);
-    filter::zero::words(stamp);
-    filter::zero::floats(weight);
-    filter::zero::words(found);
-    filter::zero::longs(bits);
+    rows::zero::cubes(cell);
+    rows::zero::words(order);
+    rows::zero::words(first);
+    rows::zero::points(sorted);
+    rows::zero::words(stamp);
+    rows::zero::floats(weight);
+    rows::zero::words(found);
+    rows::zero::longs(bits);
 }
 
 // The three filter lists set to zero, to their ends.
 fn wipe_table(starts: &mut [u32], near: &mut [u32], coef: &mut [f64])
     ensures { λ _. ⌜ (now (starts .exit) ≡ replicate (length (now (starts .entry))) 0) × (now (near .exit) ≡ replicate (length (now (near .entry))) 0) × (now (coef .exit) ≡ replicate (length (now (coef .entry))) zero64) ⌝ }
 {
-    filter::zero::words(starts);
-    filter::zero::words(near);
-    filter::zero::floats(coef);
+    rows::zero::words(starts);
+    rows::zero::words(near);
+    rows::zero::floats(coef);
 }
 
 // Builds the table: 0 where it is built, and 01's number where it is refused.
@@ -147,7 +147,7 @@ pub fn build(
     if early > 0 {
         return early;
     }
-    let number = filter::fill::fill_front(
+    let number = rows::fill::fill_front(
         centroids,
         volumes,
         radius,
