@@ -1,6 +1,7 @@
 -- What an accepted build leaves: each row's columns rise and are elements, and the table is well formed as `well` of crate table tests it.
 -- Assumes nothing.
 use mathlib.Core.Path.{_≡_, refl, sym, ap, _∙_}
+use mathlib.Core.Bool.{true}
 use mathlib.Core.Logic.{⊎-elim}
 use mathlib.Core.List.{List, _++_}
 use Prim.Native.Nat.{ℕ, zero, suc, _+_, _-_, _≤_, _<_}
@@ -13,7 +14,8 @@ use lib.Ieee.{Float}
 use borrow.Author.Tests.{ne-eqb}
 use Rattle.lists.specs.Lists.{tabulate, choose}
 use Rattle.lists.proofs.Laws.{length-tabulate, getD-tabulate, choose-false}
-use Rattle.table.specs.Table.{Wf}
+use Rattle.table.specs.Table.{Wf, wellOf}
+use Rattle.table.proofs.Laws.{wf-well}
 use Rattle.cells.proofs.Walks.{le-or-lt}
 use Rattle.filter.specs.Filter.{joined, met, columns, neighbours, start, coefficients}
 use Rattle.filter.specs.Build.{Lent, kept, zeroed, built, numberOf, laid, rowsRefusal, early, outcome, Built}
@@ -129,7 +131,7 @@ module _ (centroids : List (List Float)) (volumes : List Float) (radius : Float)
   unfolding start
   near-at k h = ap (λ (s : List ℕ). getD s k 0) near-are ∙ getD-laid (neighbours centroids radius planes n) (l .near) k 0 h
 
-  -- what is left passes `well`: the products with it need no test
+  -- what is left is well formed: the products with it need no test
   pub well-formed : Wf (l' .starts) (l' .near) (l' .coef) n n
   unfolding start
   well-formed =
@@ -141,6 +143,9 @@ module _ (centroids : List (List Float)) (volumes : List Float) (radius : Float)
         room-coef = let m = length-laid (coefficients centroids radius planes volumes n) (l .coef) in let k = length-coefficients centroids radius planes volumes n in let e = ap length coef-are in omega arith;
         inside = λ k h. let g = near-at k (omega arith) in let c = neighbours-below centroids radius planes n k (omega arith) in omega arith;
       }
+
+  pub passes-well : wellOf (l' .starts) (l' .near) (l' .coef) n n ≡ true
+  passes-well = wf-well (l' .starts) (l' .near) (l' .coef) n n well-formed
 
   -- the columns of each row, as they stand in the list, rise
   pub rows-rise : (e j k : ℕ) → e < n → getD (l' .starts) e 0 ≤ j → j < k → k < getD (l' .starts) (e + 1) 0 → getD (l' .near) j 0 < getD (l' .near) k 0
