@@ -142,8 +142,8 @@ pub fn take(
         (record { volumes = now (volumes .entry); passive = now (passive .entry); starts = now (starts .exit); near = now (near .exit); coef = now (coef .exit); design = now (design .exit); density = now (density .exit); last = now (last .entry) })
         (record { cell = now (cell .exit); order = now (order .exit); first = now (first .exit); sorted = now (sorted .exit); stamp = now (stamp .exit); weight = now (weight .exit); found = now (found .exit); bits = now (bits .exit) }) ⌝ }
 {
-    let turn = in_turn(state.phase);
-    if !turn {
+    let phase = state.phase;
+    if !in_turn(phase) {
         return Told {
             state,
             reply: Reply::Refused(20),
