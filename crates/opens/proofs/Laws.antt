@@ -28,7 +28,7 @@ use Rattle.answering.specs.Answers.{Core}
 use Rattle.opening.specs.Opens.{Work, openingIn, Left, Opened}
 use Rattle.opening.proofs.Opens.{turn-law, kept-law, zeroed-law, shut-law, opens-law}
 use Rattle.opening.proofs.Outcome.{entry-kept, entry-zeroed, entry-last, passed, not-short, outcome-is}
-use Rattle.opens.specs.Steps.{Lastly, ShutBy, BegunBy, wiped}
+use Rattle.opens.specs.Steps.{Lastly, ShutBy, BegunBy}
 
 -- the lists of a build
 abbrev pub lentOf : List ℕ → List ℕ → List Float → Work → Lent
@@ -170,19 +170,18 @@ module _ (s : State) (g : Asked) (room : ℕ) (l : Core) (w : Work) where
       -- the flag is set
       shut : (r : Told) (x q : List Float) (w₂ : Work) → g .flag ≡ true → ShutBy s (l .design) (l .density) w₁ r x q w₂
           → Opened s g room l w r (record { volumes = l .volumes; passive = l .passive; starts = st; near = ne; coef = co; design = x; density = q; last = l .last }) w₂
-      unfolding wiped
       shut r x q w₂ t h =
           let k = worked in
           let f : Left (length (l .volumes)) w w₂ Shut =
               record {
-                cell = ap (λ (v : Work). v .cell) (h .work) ∙ ap (λ (n : ℕ). replicate n (0 ∷ 0 ∷ 0 ∷ [])) (k .cell .0);
-                order = ap (λ (v : Work). v .order) (h .work) ∙ ap (λ (n : ℕ). replicate n 0) (k .order .0);
-                first = ap (λ (v : Work). v .first) (h .work) ∙ ap (λ (n : ℕ). replicate n 0) (k .first .0);
-                sorted = ap (λ (v : Work). v .sorted) (h .work) ∙ ap (λ (n : ℕ). replicate n (zero64 ∷ zero64 ∷ zero64 ∷ [])) (k .sorted .0);
-                stamp = ap (λ (v : Work). v .stamp) (h .work) ∙ ap (λ (n : ℕ). replicate n 0) (k .stamp .0);
-                weight = ap (λ (v : Work). v .weight) (h .work) ∙ ap (λ (n : ℕ). replicate n zero64) (k .weight .0);
-                found = ap (λ (v : Work). v .found) (h .work) ∙ ap (λ (n : ℕ). replicate n 0) (k .found .0);
-                bits = ap (λ (v : Work). v .bits) (h .work) ∙ ap (λ (n : ℕ). replicate n 0) (k .bits .0);
+                cell = h .work .cells ∙ ap (λ (n : ℕ). replicate n (0 ∷ 0 ∷ 0 ∷ [])) (k .cell .0);
+                order = h .work .orders ∙ ap (λ (n : ℕ). replicate n 0) (k .order .0);
+                first = h .work .firsts ∙ ap (λ (n : ℕ). replicate n 0) (k .first .0);
+                sorted = h .work .sorteds ∙ ap (λ (n : ℕ). replicate n (zero64 ∷ zero64 ∷ zero64 ∷ [])) (k .sorted .0);
+                stamp = h .work .stamps ∙ ap (λ (n : ℕ). replicate n 0) (k .stamp .0);
+                weight = h .work .weights ∙ ap (λ (n : ℕ). replicate n zero64) (k .weight .0);
+                found = h .work .founds ∙ ap (λ (n : ℕ). replicate n 0) (k .found .0);
+                bits = h .work .maps ∙ ap (λ (n : ℕ). replicate n 0) (k .bits .0);
               } in
           let e : entryOf o ≡ Shut = entry-last o none (sym b-is ∙ zero-b) ∙ ap (lastly o) t in
           let m = shut-law s g room l w (endedOf s) st ne co w₂ turn e refl starts-is near-is coef-is f in

@@ -2,13 +2,14 @@
 -- Definitions only.
 use mathlib.Core.Path.{_≡_}
 use mathlib.Core.Bool.{Bool, true, false}
-use mathlib.Core.List.{List, [], _∷_, _++_}
+use mathlib.Core.List.{List, _++_}
 use Prim.Native.Nat.{ℕ}
-use lib.ListN.{length, drop, replicate}
+use lib.ListN.{length, drop}
 use lib.Ieee.{Float}
 use Rattle.lists.specs.Lists.{overwrite, zero64}
 use Rattle.ieee.specs.Basic.{one64}
 use Rattle.topo.specs.declared.Goal.{Goal}
+use Rattle.within.specs.Wiped.{Wiped}
 use Rattle.oc.specs.Start.{solidVolume, targetOf, startDensity, startDesign}
 use Rattle.plain.specs.declared.Phase.the-variants.{Solid as SolidPhase}
 use Rattle.plain.specs.declared.Reply.the-variants.{Refused, Solid}
@@ -18,26 +19,12 @@ use Rattle.plain.specs.Calls.{endedOf}
 use Rattle.answering.specs.declared.Told.{Told}
 use Rattle.opening.specs.Opens.{Work}
 
--- the working lists zero throughout
-unfoldable pub wiped : Work → Work
-wiped w =
-    record {
-      cell = replicate (length (w .cell)) (0 ∷ 0 ∷ 0 ∷ []);
-      order = replicate (length (w .order)) 0;
-      first = replicate (length (w .first)) 0;
-      sorted = replicate (length (w .sorted)) (zero64 ∷ zero64 ∷ zero64 ∷ []);
-      stamp = replicate (length (w .stamp)) 0;
-      weight = replicate (length (w .weight)) zero64;
-      found = replicate (length (w .found)) 0;
-      bits = replicate (length (w .bits)) 0;
-    }
-
 -- the flag is set: the run does not begin
 pub record ShutBy (s : State) (x q : List Float) (w : Work) (r : Told) (x′ q′ : List Float) (w′ : Work) : Type 0 where
   pub told : _≡_ {A = Told} r (record { state = endedOf s; reply = Refused 15 })
   pub design : x′ ≡ x
   pub density : q′ ≡ q
-  pub work : w′ ≡ wiped w
+  pub work : Wiped (w .cell) (w .order) (w .first) (w .sorted) (w .stamp) (w .weight) (w .found) (w .bits) (w′ .cell) (w′ .order) (w′ .first) (w′ .sorted) (w′ .stamp) (w′ .weight) (w′ .found) (w′ .bits)
 
 -- it is not: the start's design, and the solid part is asked for
 pub record BegunBy (g : Goal) (entries : ℕ) (volumes : List Float) (passive : List Bool) (x q : List Float) (w : Work) (r : Told) (x′ q′ : List Float) (w′ : Work) : Type 0 where

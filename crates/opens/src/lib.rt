@@ -4,52 +4,12 @@ ghost use Prim.Native.Nat.{_≤_, _<_};
 ghost use lib.ListN.{length, getD};
 ghost use Rattle.plain.specs.Calls.{inTurn};
 ghost use Rattle.opening.specs.Opens.{Opened};
-ghost use Rattle.filter.specs.Build.{Built};
-ghost use Rattle.opens.specs.Steps.{Lastly, wiped};
+ghost use Rattle.opens.specs.Steps.{Lastly};
 use answering::Told;
 use plain::Phase;
 use plain::Reply;
 use plain::State;
 use topo::Goal;
-
-pub fn build(
-    centroids: &[[f64; 3]],
-    volumes: &[f64],
-    radius: f64,
-    planes: &[[f64; 6]],
-    starts: &mut [u32],
-    near: &mut [u32],
-    coef: &mut [f64],
-    cell: &mut [[u64; 3]],
-    order: &mut [u32],
-    first: &mut [u32],
-    sorted: &mut [[f64; 3]],
-    stamp: &mut [u32],
-    weight: &mut [f64],
-    found: &mut [u32],
-    bits: &mut [u64],
-) -> u32
-    ensures { λ r. ⌜ Built (now (centroids .entry)) (now (volumes .entry)) radius (now (planes .entry))
-        (record { starts = now (starts .entry); near = now (near .entry); coef = now (coef .entry); cell = now (cell .entry); order = now (order .entry); first = now (first .entry); sorted = now (sorted .entry); stamp = now (stamp .entry); weight = now (weight .entry); found = now (found .entry); bits = now (bits .entry) })
-        r
-        (record { starts = now (starts .exit); near = now (near .exit); coef = now (coef .exit); cell = now (cell .exit); order = now (order .exit); first = now (first .exit); sorted = now (sorted .exit); stamp = now (stamp .exit); weight = now (weight .exit); found = now (found .exit); bits = now (bits .exit) }) ⌝ }
-{
-    0
-}
-
-pub fn wipe_work(
-    cell: &mut [[u64; 3]],
-    order: &mut [u32],
-    first: &mut [u32],
-    sorted: &mut [[f64; 3]],
-    stamp: &mut [u32],
-    weight: &mut [f64],
-    found: &mut [u32],
-    bits: &mut [u64],
-)
-    ensures { λ _. ⌜ (record { cell = now (cell .exit); order = now (order .exit); first = now (first .exit); sorted = now (sorted .exit); stamp = now (stamp .exit); weight = now (weight .exit); found = now (found .exit); bits = now (bits .exit) }) ≡ wiped (record { cell = now (cell .entry); order = now (order .entry); first = now (first .entry); sorted = now (sorted .entry); stamp = now (stamp .entry); weight = now (weight .entry); found = now (found .entry); bits = now (bits .entry) }) ⌝ }
-{
-}
 
 // Whether no run is open.
 fn in_turn(p: Phase) -> bool
@@ -96,7 +56,7 @@ fn lastly(
         (record { cell = now (cell .exit); order = now (order .exit); first = now (first .exit); sorted = now (sorted .exit); stamp = now (stamp .exit); weight = now (weight .exit); found = now (found .exit); bits = now (bits .exit) }) ⌝ }
 {
     if flag {
-        wipe_work(cell, order, first, sorted, stamp, weight, found, bits);
+        within::wipe_work(cell, order, first, sorted, stamp, weight, found, bits);
         return Told {
             state: plain::ended(state),
             reply: Reply::Refused(15),
@@ -178,7 +138,7 @@ pub fn take(
             reply: Reply::Refused(r),
         };
     }
-    let b = build(
+    let b = within::build(
         centroids,
         volumes,
         goal.radius,
