@@ -19,7 +19,7 @@ const RADIUS: f64 = 1.5;
 const SECONDS: f64 = 0.3;
 
 /// Best seconds of each side, one after the other until both were timed long enough, `repetitions` times at most.
-fn best(repetitions: usize, mut ours: impl FnMut(), mut rust: impl FnMut()) -> (f64, f64) {
+pub fn best(repetitions: usize, mut ours: impl FnMut(), mut rust: impl FnMut()) -> (f64, f64) {
     let time = |f: &mut dyn FnMut()| {
         let began = Instant::now();
         f();
@@ -35,11 +35,11 @@ fn best(repetitions: usize, mut ours: impl FnMut(), mut rust: impl FnMut()) -> (
     least
 }
 
-fn line(name: &str, note: &str, (ours, rust): (f64, f64)) {
+pub fn line(name: &str, note: &str, (ours, rust): (f64, f64)) {
     println!("{name:<40} {:>10.3} ms {:>10.3} ms {:>7.2}  {note}", ours * 1e3, rust * 1e3, ours / rust);
 }
 
-fn grouped(n: usize) -> String {
+pub fn grouped(n: usize) -> String {
     if n < 1000 { n.to_string() } else { format!("{},{:03}", n / 1000, n % 1000) }
 }
 
@@ -66,7 +66,6 @@ impl Block {
 }
 
 pub fn all(repetitions: usize) {
-    println!("\n{:<40} {:>13} {:>13} {:>7}", "best of each side", "ours", "Rust", "ratio");
     for cells in BLOCKS {
         let block = Block::new(cells);
         let mut plain = None;

@@ -6,6 +6,7 @@ pub mod faces;
 pub mod ffi;
 pub mod geom;
 pub mod ieee;
+pub mod mesh;
 pub mod oc;
 pub mod table;
 pub mod topo;
