@@ -12,6 +12,8 @@ mod leaves;
 mod lists;
 mod mesh;
 mod oc;
+mod plain;
+mod runs;
 
 use std::process::ExitCode;
 
@@ -46,5 +48,6 @@ fn main() -> ExitCode {
     mesh::all(&mut run);
     filter::all(&mut run);
     oc::all(&mut run);
+    runs::all(&mut run);
     if run.close() { ExitCode::SUCCESS } else { ExitCode::FAILURE }
 }
