@@ -3,6 +3,7 @@ use std::hint::black_box;
 use std::time::Instant;
 
 use crate::Random;
+use sokdrib::filter::{Into, Work, build};
 use sokdrib::oc::{self, Aim, Next, Rule, Seen};
 use sokdrib::table::Table;
 use tenon::mesh::TetMesh;
@@ -81,8 +82,24 @@ pub fn all(repetitions: usize) {
     }
 }
 
-fn table(_repetitions: usize, block: &Block, mirrors: &[Mirror]) -> Filter {
-    Filter::new(&block.design.centroids, &block.design.volumes, RADIUS, mirrors).unwrap_or_default()
+/// The filter's table for the block; and the time of its build.
+fn table(repetitions: usize, block: &Block, mirrors: &[Mirror]) -> Filter {
+    let Design { volumes, centroids, .. } = &block.design;
+    let made = || Filter::new(black_box(centroids), volumes, RADIUS, mirrors).unwrap_or_default();
+    let filter = made();
+    let n = volumes.len();
+    let middles: Vec<[f64; 3]> = centroids.iter().map(|c| [c.x, c.y, c.z]).collect();
+    let planes: Vec<[f64; 6]> = mirrors.iter().map(|m| [m.point.x, m.point.y, m.point.z, m.normal.x, m.normal.y, m.normal.z]).collect();
+    let (mut starts, mut near, mut coef) = (vec![0; n + 1], vec![0; filter.near.len()], vec![0.0; filter.coef.len()]);
+    let (mut work, mut sure) = (Work::of(n), true);
+    let ours = || {
+        let into = Into { starts: &mut starts, near: &mut near, coef: &mut coef };
+        sure &= build(black_box(&middles), volumes, RADIUS, &planes, into, &mut work).is_ok();
+    };
+    let times = best(repetitions, ours, || drop(black_box(made())));
+    assert!(sure && near == filter.near && coef == filter.coef, "both sides give the same table");
+    line(&format!("filter, {} elements, {} planes", grouped(n), planes.len()), &format!("{} entries", near.len()), times);
+    filter
 }
 
 fn lists(filter: &Filter) -> Table<'_> {

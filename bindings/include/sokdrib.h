@@ -164,6 +164,42 @@ void sokdrib_dist2_each(
     size_t out_len
 );
 
+/* The filter's table, over the radius and the same on both sides of each plane (its point, then its normal), and 0 or the refusal. 1, 2, 3, 10 and 14
+ * before the first row leave all lists as before; 13 and 14 at a row leave the table's lists and the working lists zero throughout. A table has its rows'
+ * starts, one more than there are elements, and each row's neighbours and weights up to its end. The working lists are for the call's own use: one
+ * place an element, first one more, and bits 1040. */
+uint32_t sokdrib_filter_build(
+    const double (*centroids)[3],
+    size_t centroids_len,
+    const double *volumes,
+    size_t volumes_len,
+    double radius,
+    const double (*planes)[6],
+    size_t planes_len,
+    uint32_t *starts,
+    size_t starts_len,
+    uint32_t *near_,
+    size_t near_len,
+    double *coef,
+    size_t coef_len,
+    uint64_t (*cell)[3],
+    size_t cell_len,
+    uint32_t *order,
+    size_t order_len,
+    uint32_t *first,
+    size_t first_len,
+    double (*sorted)[3],
+    size_t sorted_len,
+    uint32_t *stamp,
+    size_t stamp_len,
+    double *weight,
+    size_t weight_len,
+    uint32_t *found,
+    size_t found_len,
+    uint64_t *bits,
+    size_t bits_len
+);
+
 /* Element densities seen through the filter: the sum of each row, one row for each place of out. A row whose places are not in the
  * lists is empty, and what stands past the end of x counts as 0. */
 void sokdrib_apply(

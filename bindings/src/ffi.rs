@@ -135,6 +135,37 @@ mod library {
             out: *mut f64,
             out_len: usize,
         );
+        pub unsafe fn sokdrib_filter_build(
+            centroids: *const [f64; 3],
+            centroids_len: usize,
+            volumes: *const f64,
+            volumes_len: usize,
+            radius: f64,
+            planes: *const [f64; 6],
+            planes_len: usize,
+            starts: *mut u32,
+            starts_len: usize,
+            near: *mut u32,
+            near_len: usize,
+            coef: *mut f64,
+            coef_len: usize,
+            cell: *mut [u64; 3],
+            cell_len: usize,
+            order: *mut u32,
+            order_len: usize,
+            first: *mut u32,
+            first_len: usize,
+            sorted: *mut [f64; 3],
+            sorted_len: usize,
+            stamp: *mut u32,
+            stamp_len: usize,
+            weight: *mut f64,
+            weight_len: usize,
+            found: *mut u32,
+            found_len: usize,
+            bits: *mut u64,
+            bits_len: usize,
+        ) -> u32;
         pub unsafe fn sokdrib_apply(
             starts: *const u32,
             starts_len: usize,
@@ -339,6 +370,48 @@ pub fn sokdrib_tanh_each(zs: &[f64], out: &mut [f64]) {
 pub fn sokdrib_dist2_each(points: &[[f64; 3]], triangles: &[[f64; 9]], out: &mut [f64]) {
     // SAFETY: see above.
     unsafe { library::sokdrib_dist2_each(points.as_ptr(), points.len(), triangles.as_ptr(), triangles.len(), out.as_mut_ptr(), out.len()) }
+}
+
+/// The filter's table, over the radius and the same on both sides of each plane (its point, then its normal), and 0 or the refusal. 1, 2, 3, 10 and 14
+/// before the first row leave all lists as before; 13 and 14 at a row leave the table's lists and the working lists zero throughout. A table has its rows'
+/// starts, one more than there are elements, and each row's neighbours and weights up to its end. The working lists are for the call's own use: one
+/// place an element, first one more, and bits 1040.
+#[allow(clippy::too_many_arguments)]
+pub fn sokdrib_filter_build(
+    centroids: &[[f64; 3]],
+    volumes: &[f64],
+    radius: f64,
+    planes: &[[f64; 6]],
+    starts: &mut [u32],
+    near: &mut [u32],
+    coef: &mut [f64],
+    cell: &mut [[u64; 3]],
+    order: &mut [u32],
+    first: &mut [u32],
+    sorted: &mut [[f64; 3]],
+    stamp: &mut [u32],
+    weight: &mut [f64],
+    found: &mut [u32],
+    bits: &mut [u64],
+) -> u32 {
+    // SAFETY: see above.
+    unsafe { library::sokdrib_filter_build(
+        centroids.as_ptr(), centroids.len(),
+        volumes.as_ptr(), volumes.len(),
+        radius,
+        planes.as_ptr(), planes.len(),
+        starts.as_mut_ptr(), starts.len(),
+        near.as_mut_ptr(), near.len(),
+        coef.as_mut_ptr(), coef.len(),
+        cell.as_mut_ptr(), cell.len(),
+        order.as_mut_ptr(), order.len(),
+        first.as_mut_ptr(), first.len(),
+        sorted.as_mut_ptr(), sorted.len(),
+        stamp.as_mut_ptr(), stamp.len(),
+        weight.as_mut_ptr(), weight.len(),
+        found.as_mut_ptr(), found.len(),
+        bits.as_mut_ptr(), bits.len()
+    ) }
 }
 
 /// Element densities seen through the filter: the sum of each row, one row for each place of out. A row whose places are not in the

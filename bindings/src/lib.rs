@@ -4,6 +4,7 @@
 pub mod faces;
 #[rustfmt::skip]
 pub mod ffi;
+pub mod filter;
 pub mod geom;
 pub mod ieee;
 pub mod mesh;

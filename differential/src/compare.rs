@@ -130,6 +130,8 @@ pub struct Run {
     pub seed: u64,
     /// The one function that is compared; all where there is no name.
     pub only: Option<String>,
+    /// Whether the largest cases are compared too.
+    pub long: bool,
     pub functions: usize,
     pub total: usize,
     pub differences: usize,
@@ -138,7 +140,7 @@ pub struct Run {
 
 impl Run {
     pub fn new(cases: usize, seed: u64) -> Run {
-        Run { cases, seed, only: None, functions: 0, total: 0, differences: 0, began: Instant::now() }
+        Run { cases, seed, only: None, long: false, functions: 0, total: 0, differences: 0, began: Instant::now() }
     }
 
     /// Compares one leaf on its edges and on random inputs, and prints its line.

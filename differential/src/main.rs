@@ -4,7 +4,7 @@
 //!
 //! Prints a line for each function: how many cases, how many differences, and the smallest inputs that have one, as bits. Ends with
 //! status 1 where there are any. `--cases` is how many random inputs a leaf gets beside its edges, and functions over lists get fewer in
-//! proportion; `--long` means twenty times as many.
+//! proportion; `--long` means twenty times as many, and the largest tables and runs, which take some gigabytes.
 mod compare;
 mod filter;
 mod inputs;
@@ -23,19 +23,19 @@ const CASES: usize = 1_000_000;
 const LONG: usize = 20 * CASES;
 
 fn options() -> Option<Run> {
-    let (mut cases, mut seed, mut only) = (CASES, 1, None);
+    let (mut cases, mut seed, mut only, mut long) = (CASES, 1, None, false);
     let mut words = std::env::args().skip(1);
     while let Some(word) = words.next() {
         match word.as_str() {
             "--cases" => cases = words.next()?.parse().ok()?,
-            "--long" => cases = LONG,
+            "--long" => (cases, long) = (LONG, true),
             "--seed" => seed = words.next()?.parse().ok()?,
             "--only" => only = Some(words.next()?),
             _ => return None,
         }
     }
     let mut run = Run::new(cases, seed);
-    run.only = only;
+    (run.only, run.long) = (only, long);
     Some(run)
 }
 
