@@ -3,6 +3,7 @@ use std::hint::black_box;
 use std::time::Instant;
 
 use crate::Random;
+use sokdrib::filter::{Into, Work, build};
 use sokdrib::oc::{self, Aim, Next, Rule, Seen};
 use sokdrib::table::Table;
 use tenon::mesh::TetMesh;
@@ -19,7 +20,7 @@ const RADIUS: f64 = 1.5;
 const SECONDS: f64 = 0.3;
 
 /// Best seconds of each side, one after the other until both were timed long enough, `repetitions` times at most.
-fn best(repetitions: usize, mut ours: impl FnMut(), mut rust: impl FnMut()) -> (f64, f64) {
+pub fn best(repetitions: usize, mut ours: impl FnMut(), mut rust: impl FnMut()) -> (f64, f64) {
     let time = |f: &mut dyn FnMut()| {
         let began = Instant::now();
         f();
@@ -35,11 +36,11 @@ fn best(repetitions: usize, mut ours: impl FnMut(), mut rust: impl FnMut()) -> (
     least
 }
 
-fn line(name: &str, note: &str, (ours, rust): (f64, f64)) {
+pub fn line(name: &str, note: &str, (ours, rust): (f64, f64)) {
     println!("{name:<40} {:>10.3} ms {:>10.3} ms {:>7.2}  {note}", ours * 1e3, rust * 1e3, ours / rust);
 }
 
-fn grouped(n: usize) -> String {
+pub fn grouped(n: usize) -> String {
     if n < 1000 { n.to_string() } else { format!("{},{:03}", n / 1000, n % 1000) }
 }
 
@@ -66,7 +67,6 @@ impl Block {
 }
 
 pub fn all(repetitions: usize) {
-    println!("\n{:<40} {:>13} {:>13} {:>7}", "best of each side", "ours", "Rust", "ratio");
     for cells in BLOCKS {
         let block = Block::new(cells);
         let mut plain = None;
@@ -82,8 +82,24 @@ pub fn all(repetitions: usize) {
     }
 }
 
-fn table(_repetitions: usize, block: &Block, mirrors: &[Mirror]) -> Filter {
-    Filter::new(&block.design.centroids, &block.design.volumes, RADIUS, mirrors).unwrap_or_default()
+/// The filter's table for the block; and the time of its build.
+fn table(repetitions: usize, block: &Block, mirrors: &[Mirror]) -> Filter {
+    let Design { volumes, centroids, .. } = &block.design;
+    let made = || Filter::new(black_box(centroids), volumes, RADIUS, mirrors).unwrap_or_default();
+    let filter = made();
+    let n = volumes.len();
+    let middles: Vec<[f64; 3]> = centroids.iter().map(|c| [c.x, c.y, c.z]).collect();
+    let planes: Vec<[f64; 6]> = mirrors.iter().map(|m| [m.point.x, m.point.y, m.point.z, m.normal.x, m.normal.y, m.normal.z]).collect();
+    let (mut starts, mut near, mut coef) = (vec![0; n + 1], vec![0; filter.near.len()], vec![0.0; filter.coef.len()]);
+    let (mut work, mut sure) = (Work::of(n), true);
+    let ours = || {
+        let into = Into { starts: &mut starts, near: &mut near, coef: &mut coef };
+        sure &= build(black_box(&middles), volumes, RADIUS, &planes, into, &mut work).is_ok();
+    };
+    let times = best(repetitions, ours, || drop(black_box(made())));
+    assert!(sure && near == filter.near && coef == filter.coef, "both sides give the same table");
+    line(&format!("filter, {} elements, {} planes", grouped(n), planes.len()), &format!("{} entries", near.len()), times);
+    filter
 }
 
 fn lists(filter: &Filter) -> Table<'_> {

@@ -24,6 +24,13 @@ typedef struct {
 } SokdribMirror;
 
 typedef struct {
+    uint32_t refusal;
+    uint32_t nodes;
+    uint32_t tets;
+    uint32_t tris;
+} SokdribMade;
+
+typedef struct {
     uint32_t refused;
     double total;
     double solid;
@@ -53,6 +60,7 @@ typedef struct {
 #if !defined(__cplusplus) && __STDC_VERSION__ >= 201112L
 _Static_assert(sizeof(SokdribVec3) == 24, "SokdribVec3");
 _Static_assert(sizeof(SokdribMirror) == 48, "SokdribMirror");
+_Static_assert(sizeof(SokdribMade) == 16, "SokdribMade");
 _Static_assert(sizeof(SokdribStart) == 48, "SokdribStart");
 _Static_assert(sizeof(SokdribProjected) == 16, "SokdribProjected");
 _Static_assert(sizeof(SokdribKept) == 16, "SokdribKept");
@@ -156,6 +164,42 @@ void sokdrib_dist2_each(
     size_t out_len
 );
 
+/* The filter's table, over the radius and the same on both sides of each plane (its point, then its normal), and 0 or the refusal. 1, 2, 3, 10 and 14
+ * before the first row leave all lists as before; 13 and 14 at a row leave the table's lists and the working lists zero throughout. A table has its rows'
+ * starts, one more than there are elements, and each row's neighbours and weights up to its end. The working lists are for the call's own use: one
+ * place an element, first one more, and bits 1040. */
+uint32_t sokdrib_filter_build(
+    const double (*centroids)[3],
+    size_t centroids_len,
+    const double *volumes,
+    size_t volumes_len,
+    double radius,
+    const double (*planes)[6],
+    size_t planes_len,
+    uint32_t *starts,
+    size_t starts_len,
+    uint32_t *near_,
+    size_t near_len,
+    double *coef,
+    size_t coef_len,
+    uint64_t (*cell)[3],
+    size_t cell_len,
+    uint32_t *order,
+    size_t order_len,
+    uint32_t *first,
+    size_t first_len,
+    double (*sorted)[3],
+    size_t sorted_len,
+    uint32_t *stamp,
+    size_t stamp_len,
+    double *weight,
+    size_t weight_len,
+    uint32_t *found,
+    size_t found_len,
+    uint64_t *bits,
+    size_t bits_len
+);
+
 /* Element densities seen through the filter: the sum of each row, one row for each place of out. A row whose places are not in the
  * lists is empty, and what stands past the end of x counts as 0. */
 void sokdrib_apply(
@@ -183,6 +227,49 @@ void sokdrib_back(
     size_t g_len,
     double *out,
     size_t out_len
+);
+
+/* The volume of a tetrahedron, curved as its mid-side nodes make it. A node that is not there is the origin. */
+double sokdrib_volume(const double (*nodes)[3], size_t nodes_len, const uint32_t tet[10]);
+
+/* The volume of the straight tetrahedron between the corners. */
+double sokdrib_corner_volume(const double (*nodes)[3], size_t nodes_len, const uint32_t tet[10]);
+
+/* The middle of a tetrahedron: the mean of its corners. */
+SokdribVec3 sokdrib_centroid(const double (*nodes)[3], size_t nodes_len, const uint32_t tet[10]);
+
+/* The size of the box that the nodes fit in, corner to corner. */
+double sokdrib_extent(const double (*nodes)[3], size_t nodes_len);
+
+/* Each tetrahedron's volume and middle, and 0 or the refusal: 3, 9 or 14, with both lists as before. */
+uint32_t sokdrib_design(
+    const double (*nodes)[3],
+    size_t nodes_len,
+    const uint32_t (*tets)[10],
+    size_t tets_len,
+    double *volumes,
+    size_t volumes_len,
+    double (*middles)[3],
+    size_t middles_len
+);
+
+/* A box size long on each side, from the origin, in nx, ny and nz cells along the axes, each cell six tetrahedra. Fills the lists, with edges to work
+ * in, and gives the counts; or the refusal 3, 9 or 14, with every list as before. The triangles' surfaces are 1 to 6: x = 0, x = size.x, and so on. */
+SokdribMade sokdrib_block(
+    size_t nx,
+    size_t ny,
+    size_t nz,
+    SokdribVec3 size,
+    double (*nodes)[3],
+    size_t nodes_len,
+    uint32_t (*tets)[10],
+    size_t tets_len,
+    uint32_t *surfaces,
+    size_t surfaces_len,
+    uint32_t (*tris)[6],
+    size_t tris_len,
+    uint32_t *edges,
+    size_t edges_len
 );
 
 /* Whether solid of a part's total volume, held solid, leaves no room to come down to target. */

@@ -23,6 +23,16 @@ const _: () = assert!(size_of::<Mirror>() == 48 && align_of::<Mirror>() == 8);
 
 #[repr(C)]
 #[derive(Clone, Copy, Debug, Default, PartialEq)]
+pub struct Made {
+    pub refusal: u32,
+    pub nodes: u32,
+    pub tets: u32,
+    pub tris: u32,
+}
+const _: () = assert!(size_of::<Made>() == 16 && align_of::<Made>() == 4);
+
+#[repr(C)]
+#[derive(Clone, Copy, Debug, Default, PartialEq)]
 pub struct Start {
     pub refused: u32,
     pub total: f64,
@@ -61,7 +71,7 @@ pub struct Update {
 const _: () = assert!(size_of::<Update>() == 32 && align_of::<Update>() == 8);
 
 mod library {
-    use super::{Kept, Mirror, Projected, Start, Update, Vec3};
+    use super::{Kept, Made, Mirror, Projected, Start, Update, Vec3};
 
     unsafe extern "C" {
         /// The size of x.
@@ -125,6 +135,37 @@ mod library {
             out: *mut f64,
             out_len: usize,
         );
+        pub unsafe fn sokdrib_filter_build(
+            centroids: *const [f64; 3],
+            centroids_len: usize,
+            volumes: *const f64,
+            volumes_len: usize,
+            radius: f64,
+            planes: *const [f64; 6],
+            planes_len: usize,
+            starts: *mut u32,
+            starts_len: usize,
+            near: *mut u32,
+            near_len: usize,
+            coef: *mut f64,
+            coef_len: usize,
+            cell: *mut [u64; 3],
+            cell_len: usize,
+            order: *mut u32,
+            order_len: usize,
+            first: *mut u32,
+            first_len: usize,
+            sorted: *mut [f64; 3],
+            sorted_len: usize,
+            stamp: *mut u32,
+            stamp_len: usize,
+            weight: *mut f64,
+            weight_len: usize,
+            found: *mut u32,
+            found_len: usize,
+            bits: *mut u64,
+            bits_len: usize,
+        ) -> u32;
         pub unsafe fn sokdrib_apply(
             starts: *const u32,
             starts_len: usize,
@@ -149,6 +190,36 @@ mod library {
             out: *mut f64,
             out_len: usize,
         );
+        pub unsafe fn sokdrib_volume(nodes: *const [f64; 3], nodes_len: usize, tet: &[u32; 10]) -> f64;
+        pub unsafe fn sokdrib_corner_volume(nodes: *const [f64; 3], nodes_len: usize, tet: &[u32; 10]) -> f64;
+        pub unsafe fn sokdrib_centroid(nodes: *const [f64; 3], nodes_len: usize, tet: &[u32; 10]) -> Vec3;
+        pub unsafe fn sokdrib_extent(nodes: *const [f64; 3], nodes_len: usize) -> f64;
+        pub unsafe fn sokdrib_design(
+            nodes: *const [f64; 3],
+            nodes_len: usize,
+            tets: *const [u32; 10],
+            tets_len: usize,
+            volumes: *mut f64,
+            volumes_len: usize,
+            middles: *mut [f64; 3],
+            middles_len: usize,
+        ) -> u32;
+        pub unsafe fn sokdrib_block(
+            nx: usize,
+            ny: usize,
+            nz: usize,
+            size: Vec3,
+            nodes: *mut [f64; 3],
+            nodes_len: usize,
+            tets: *mut [u32; 10],
+            tets_len: usize,
+            surfaces: *mut u32,
+            surfaces_len: usize,
+            tris: *mut [u32; 6],
+            tris_len: usize,
+            edges: *mut u32,
+            edges_len: usize,
+        ) -> Made;
         /// Whether solid of a part's total volume, held solid, leaves no room to come down to target.
         pub safe fn sokdrib_no_room(solid: f64, total: f64, target: f64) -> bool;
         pub unsafe fn sokdrib_start(
@@ -301,6 +372,48 @@ pub fn sokdrib_dist2_each(points: &[[f64; 3]], triangles: &[[f64; 9]], out: &mut
     unsafe { library::sokdrib_dist2_each(points.as_ptr(), points.len(), triangles.as_ptr(), triangles.len(), out.as_mut_ptr(), out.len()) }
 }
 
+/// The filter's table, over the radius and the same on both sides of each plane (its point, then its normal), and 0 or the refusal. 1, 2, 3, 10 and 14
+/// before the first row leave all lists as before; 13 and 14 at a row leave the table's lists and the working lists zero throughout. A table has its rows'
+/// starts, one more than there are elements, and each row's neighbours and weights up to its end. The working lists are for the call's own use: one
+/// place an element, first one more, and bits 1040.
+#[allow(clippy::too_many_arguments)]
+pub fn sokdrib_filter_build(
+    centroids: &[[f64; 3]],
+    volumes: &[f64],
+    radius: f64,
+    planes: &[[f64; 6]],
+    starts: &mut [u32],
+    near: &mut [u32],
+    coef: &mut [f64],
+    cell: &mut [[u64; 3]],
+    order: &mut [u32],
+    first: &mut [u32],
+    sorted: &mut [[f64; 3]],
+    stamp: &mut [u32],
+    weight: &mut [f64],
+    found: &mut [u32],
+    bits: &mut [u64],
+) -> u32 {
+    // SAFETY: see above.
+    unsafe { library::sokdrib_filter_build(
+        centroids.as_ptr(), centroids.len(),
+        volumes.as_ptr(), volumes.len(),
+        radius,
+        planes.as_ptr(), planes.len(),
+        starts.as_mut_ptr(), starts.len(),
+        near.as_mut_ptr(), near.len(),
+        coef.as_mut_ptr(), coef.len(),
+        cell.as_mut_ptr(), cell.len(),
+        order.as_mut_ptr(), order.len(),
+        first.as_mut_ptr(), first.len(),
+        sorted.as_mut_ptr(), sorted.len(),
+        stamp.as_mut_ptr(), stamp.len(),
+        weight.as_mut_ptr(), weight.len(),
+        found.as_mut_ptr(), found.len(),
+        bits.as_mut_ptr(), bits.len()
+    ) }
+}
+
 /// Element densities seen through the filter: the sum of each row, one row for each place of out. A row whose places are not in the
 /// lists is empty, and what stands past the end of x counts as 0.
 pub fn sokdrib_apply(starts: &[u32], near: &[u32], coef: &[f64], x: &[f64], out: &mut [f64]) {
@@ -323,6 +436,69 @@ pub fn sokdrib_back(starts: &[u32], near: &[u32], coef: &[f64], g: &[f64], out: 
         coef.as_ptr(), coef.len(),
         g.as_ptr(), g.len(),
         out.as_mut_ptr(), out.len()
+    ) }
+}
+
+/// The volume of a tetrahedron, curved as its mid-side nodes make it. A node that is not there is the origin.
+pub fn sokdrib_volume(nodes: &[[f64; 3]], tet: &[u32; 10]) -> f64 {
+    // SAFETY: see above.
+    unsafe { library::sokdrib_volume(nodes.as_ptr(), nodes.len(), tet) }
+}
+
+/// The volume of the straight tetrahedron between the corners.
+pub fn sokdrib_corner_volume(nodes: &[[f64; 3]], tet: &[u32; 10]) -> f64 {
+    // SAFETY: see above.
+    unsafe { library::sokdrib_corner_volume(nodes.as_ptr(), nodes.len(), tet) }
+}
+
+/// The middle of a tetrahedron: the mean of its corners.
+pub fn sokdrib_centroid(nodes: &[[f64; 3]], tet: &[u32; 10]) -> Vec3 {
+    // SAFETY: see above.
+    unsafe { library::sokdrib_centroid(nodes.as_ptr(), nodes.len(), tet) }
+}
+
+/// The size of the box that the nodes fit in, corner to corner.
+pub fn sokdrib_extent(nodes: &[[f64; 3]]) -> f64 {
+    // SAFETY: see above.
+    unsafe { library::sokdrib_extent(nodes.as_ptr(), nodes.len()) }
+}
+
+/// Each tetrahedron's volume and middle, and 0 or the refusal: 3, 9 or 14, with both lists as before.
+pub fn sokdrib_design(nodes: &[[f64; 3]], tets: &[[u32; 10]], volumes: &mut [f64], middles: &mut [[f64; 3]]) -> u32 {
+    // SAFETY: see above.
+    unsafe { library::sokdrib_design(
+        nodes.as_ptr(), nodes.len(),
+        tets.as_ptr(), tets.len(),
+        volumes.as_mut_ptr(), volumes.len(),
+        middles.as_mut_ptr(), middles.len()
+    ) }
+}
+
+/// A box size long on each side, from the origin, in nx, ny and nz cells along the axes, each cell six tetrahedra. Fills the lists, with edges to work
+/// in, and gives the counts; or the refusal 3, 9 or 14, with every list as before. The triangles' surfaces are 1 to 6: x = 0, x = size.x, and so on.
+#[allow(clippy::too_many_arguments)]
+pub fn sokdrib_block(
+    nx: usize,
+    ny: usize,
+    nz: usize,
+    size: Vec3,
+    nodes: &mut [[f64; 3]],
+    tets: &mut [[u32; 10]],
+    surfaces: &mut [u32],
+    tris: &mut [[u32; 6]],
+    edges: &mut [u32],
+) -> Made {
+    // SAFETY: see above.
+    unsafe { library::sokdrib_block(
+        nx,
+        ny,
+        nz,
+        size,
+        nodes.as_mut_ptr(), nodes.len(),
+        tets.as_mut_ptr(), tets.len(),
+        surfaces.as_mut_ptr(), surfaces.len(),
+        tris.as_mut_ptr(), tris.len(),
+        edges.as_mut_ptr(), edges.len()
     ) }
 }
 

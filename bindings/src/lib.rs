@@ -4,8 +4,10 @@
 pub mod faces;
 #[rustfmt::skip]
 pub mod ffi;
+pub mod filter;
 pub mod geom;
 pub mod ieee;
+pub mod mesh;
 pub mod oc;
 pub mod table;
 pub mod topo;

@@ -128,6 +128,10 @@ pub struct Run {
     /// How many random cases a leaf gets, beside its edges.
     pub cases: usize,
     pub seed: u64,
+    /// The one function that is compared; all where there is no name.
+    pub only: Option<String>,
+    /// Whether the largest cases are compared too.
+    pub long: bool,
     pub functions: usize,
     pub total: usize,
     pub differences: usize,
@@ -136,7 +140,7 @@ pub struct Run {
 
 impl Run {
     pub fn new(cases: usize, seed: u64) -> Run {
-        Run { cases, seed, functions: 0, total: 0, differences: 0, began: Instant::now() }
+        Run { cases, seed, only: None, long: false, functions: 0, total: 0, differences: 0, began: Instant::now() }
     }
 
     /// Compares one leaf on its edges and on random inputs, and prints its line.
@@ -161,6 +165,9 @@ impl Run {
         original: impl Fn(I) -> O,
         ours: impl Fn(I) -> O,
     ) {
+        if self.only.as_ref().is_some_and(|only| only != name) {
+            return;
+        }
         let began = Instant::now();
         let mut random_inputs = Gen::of(self.seed, name);
         let (mut cases, mut differences) = (0, 0);

@@ -1,16 +1,19 @@
 //! Runs the proved library and the Rust original on the same inputs and compares what they give, bit by bit.
 //!
-//!     differential [--cases N] [--long] [--seed S]
+//!     differential [--cases N] [--long] [--seed S] [--only FUNCTION]
 //!
 //! Prints a line for each function: how many cases, how many differences, and the smallest inputs that have one, as bits. Ends with
 //! status 1 where there are any. `--cases` is how many random inputs a leaf gets beside its edges, and functions over lists get fewer in
-//! proportion; `--long` means twenty times as many.
+//! proportion; `--long` means twenty times as many, and the largest tables and runs, which take some gigabytes.
 mod compare;
 mod filter;
 mod inputs;
 mod leaves;
 mod lists;
+mod mesh;
 mod oc;
+mod plain;
+mod runs;
 
 use std::process::ExitCode;
 
@@ -19,28 +22,32 @@ use compare::Run;
 const CASES: usize = 1_000_000;
 const LONG: usize = 20 * CASES;
 
-fn options() -> Option<(usize, u64)> {
-    let (mut cases, mut seed) = (CASES, 1);
+fn options() -> Option<Run> {
+    let (mut cases, mut seed, mut only, mut long) = (CASES, 1, None, false);
     let mut words = std::env::args().skip(1);
     while let Some(word) = words.next() {
         match word.as_str() {
             "--cases" => cases = words.next()?.parse().ok()?,
-            "--long" => cases = LONG,
+            "--long" => (cases, long) = (LONG, true),
             "--seed" => seed = words.next()?.parse().ok()?,
+            "--only" => only = Some(words.next()?),
             _ => return None,
         }
     }
-    Some((cases, seed))
+    let mut run = Run::new(cases, seed);
+    (run.only, run.long) = (only, long);
+    Some(run)
 }
 
 fn main() -> ExitCode {
-    let Some((cases, seed)) = options() else {
-        eprintln!("usage: differential [--cases N] [--long] [--seed S]");
+    let Some(mut run) = options() else {
+        eprintln!("usage: differential [--cases N] [--long] [--seed S] [--only FUNCTION]");
         return ExitCode::from(2);
     };
-    let mut run = Run::new(cases, seed);
     leaves::all(&mut run);
+    mesh::all(&mut run);
     filter::all(&mut run);
     oc::all(&mut run);
+    runs::all(&mut run);
     if run.close() { ExitCode::SUCCESS } else { ExitCode::FAILURE }
 }

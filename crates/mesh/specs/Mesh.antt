@@ -80,13 +80,14 @@ shareAt t w0 w1 w2 w3 =
     twentyFour64
 
 -- `volume`: the four-point rule, whose shares are added in order
-unfoldable pub volumeOf : List (List Float) → List ℕ → Float
-volumeOf nodes tet =
-    let t = tenOf nodes tet in
-    absOf
-    (add binary64
+unfoldable pub ruleOf : Ten → Float
+ruleOf t =
+    add binary64
     (add binary64 (add binary64 (shareAt t A B B B) (shareAt t B A B B)) (shareAt t B B A B))
-    (shareAt t B B B A))
+    (shareAt t B B B A)
+
+unfoldable pub volumeOf : List (List Float) → List ℕ → Float
+volumeOf nodes tet = absOf (ruleOf (tenOf nodes tet))
 
 -- `corner_volume`: the straight tetrahedron between the corners
 unfoldable pub cornerVolumeOf : List (List Float) → List ℕ → Float

@@ -2,6 +2,7 @@
 ghost use mathlib.Core.Path.{_≡_};
 ghost use lib.ListN.{length, getD};
 ghost use Rattle.mesh.specs.Mesh as Mesh;
+ghost use Rattle.mesh.specs.Steps as Steps;
 use geom::Vec3;
 
 // A lent point. Internal: for `block` too.
@@ -32,14 +33,37 @@ fn node(nodes: &[[f64; 3]], n: u32) -> Vec3
     origin()
 }
 
-// How a point of the rule moves with the weight w of the corner c.
-fn moves(c: Vec3, w: f64, m1: Vec3, w1: f64, m2: Vec3, w2: f64, m3: Vec3, w3: f64) -> Vec3
-    ensures { λ r. ⌜ r ≡ Mesh.moves c w m1 w1 m2 w2 m3 w3 ⌝ }
+// A node times the two numbers that the rule scales it by: made once, since each product is needed at several points.
+struct Twice {
+    a: Vec3,
+    b: Vec3,
+}
+
+// A corner, at the point of the rule where it weighs most and at the others.
+fn corner(p: Vec3) -> Twice
+    ensures { λ r. ⌜ r ≡ Steps.cornerTwice p ⌝ }
 {
-    c.scale(4.0 * w - 1.0)
-        .add(m1.scale(4.0 * w1))
-        .add(m2.scale(4.0 * w2))
-        .add(m3.scale(4.0 * w3))
+    Twice {
+        a: p.scale(4.0 * 0.585410196624969 - 1.0),
+        b: p.scale(4.0 * 0.138196601125011 - 1.0),
+    }
+}
+
+// The middle of a side, where the corner at the other end weighs most and elsewhere.
+fn middle(p: Vec3) -> Twice
+    ensures { λ r. ⌜ r ≡ Steps.middleTwice p ⌝ }
+{
+    Twice {
+        a: p.scale(4.0 * 0.585410196624969),
+        b: p.scale(4.0 * 0.138196601125011),
+    }
+}
+
+// How a point of the rule moves with the weight of a corner, whose sides have the middles m1, m2, m3.
+fn moves(c: Vec3, m1: Vec3, m2: Vec3, m3: Vec3) -> Vec3
+    ensures { λ r. ⌜ r ≡ Steps.added c m1 m2 m3 ⌝ }
+{
+    c.add(m1).add(m2).add(m3)
 }
 
 // dot(d1 - d0, cross(d2 - d0, d3 - d0)). Internal: for `block` too.
@@ -80,27 +104,59 @@ fn nodes_of(nodes: &[[f64; 3]], t: [u32; 10]) -> Ten
     }
 }
 
-// The share of one point of the rule, at which the corners weigh w0 to w3.
-fn share(t: Ten, w0: f64, w1: f64, w2: f64, w3: f64) -> f64
-    ensures { λ r. ⌜ r ≡ Mesh.shareAt t w0 w1 w2 w3 ⌝ }
+// The share of one point of the rule, from how it moves with each corner's weight.
+fn share(d0: Vec3, d1: Vec3, d2: Vec3, d3: Vec3) -> f64
+    ensures { λ r. ⌜ r ≡ Steps.shareBy d0 d1 d2 d3 ⌝ }
 {
-    let d0 = moves(t.p0, w0, t.p4, w1, t.p6, w2, t.p7, w3);
-    let d1 = moves(t.p1, w1, t.p4, w0, t.p5, w2, t.p9, w3);
-    let d2 = moves(t.p2, w2, t.p5, w1, t.p6, w0, t.p8, w3);
-    let d3 = moves(t.p3, w3, t.p7, w0, t.p8, w2, t.p9, w1);
     triple(d0, d1, d2, d3) / 24.0
+}
+
+// The four points' shares, added in order.
+fn rule(t: Ten) -> f64
+    ensures { λ r. ⌜ r ≡ Mesh.ruleOf t ⌝ }
+{
+    let c0 = corner(t.p0);
+    let c1 = corner(t.p1);
+    let c2 = corner(t.p2);
+    let c3 = corner(t.p3);
+    let m4 = middle(t.p4);
+    let m5 = middle(t.p5);
+    let m6 = middle(t.p6);
+    let m7 = middle(t.p7);
+    let m8 = middle(t.p8);
+    let m9 = middle(t.p9);
+    let s0 = share(
+        moves(c0.a, m4.b, m6.b, m7.b),
+        moves(c1.b, m4.a, m5.b, m9.b),
+        moves(c2.b, m5.b, m6.a, m8.b),
+        moves(c3.b, m7.a, m8.b, m9.b),
+    );
+    let s1 = share(
+        moves(c0.b, m4.a, m6.b, m7.b),
+        moves(c1.a, m4.b, m5.b, m9.b),
+        moves(c2.b, m5.a, m6.b, m8.b),
+        moves(c3.b, m7.b, m8.b, m9.a),
+    );
+    let s2 = share(
+        moves(c0.b, m4.b, m6.a, m7.b),
+        moves(c1.b, m4.b, m5.a, m9.b),
+        moves(c2.a, m5.b, m6.b, m8.b),
+        moves(c3.b, m7.b, m8.a, m9.b),
+    );
+    let s3 = share(
+        moves(c0.b, m4.b, m6.b, m7.a),
+        moves(c1.b, m4.b, m5.b, m9.a),
+        moves(c2.b, m5.b, m6.b, m8.a),
+        moves(c3.a, m7.b, m8.b, m9.b),
+    );
+    s0 + s1 + s2 + s3
 }
 
 // The volume of a tetrahedron, curved as its mid-side nodes make it: the four-point rule on the second-order element.
 pub fn volume(nodes: &[[f64; 3]], tet: [u32; 10]) -> f64
     ensures { λ r. ⌜ r ≡ Mesh.volumeOf (now (nodes .entry)) tet ⌝ }
 {
-    let a = 0.585410196624969;
-    let b = 0.138196601125011;
-    let t = nodes_of(nodes, tet);
-    ieee::abs(
-        share(t, a, b, b, b) + share(t, b, a, b, b) + share(t, b, b, a, b) + share(t, b, b, b, a),
-    )
+    ieee::abs(rule(nodes_of(nodes, tet)))
 }
 
 // The volume of the straight tetrahedron between the corners.
