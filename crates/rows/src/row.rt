@@ -21,13 +21,9 @@ fn room(e: usize, end: usize, nears: usize, coefs: usize) -> u32
     requires { ⌜ (e < 2 ^ 32) × (end < 2 ^ 32) ⌝ }
     ensures { λ r. ⌜ r ≡ roomRefusal e end nears coefs ⌝ }
 {
-    if 4 * (e + 2) + 12 * end > 536870912 {
-        return 13;
-    }
-    if (nears < end) | (coefs < end) {
-        return 14;
-    }
-    0
+    let big = 4 * (e + 2) + 12 * end > 536870912;
+    let short = (nears < end) | (coefs < end);
+    lists::first(big, 13, lists::first(short, 14, 0))
 }
 
 // The row's elements are those that bear the mark, `count` in all; its entries go from `at` on.
