@@ -1,0 +1,2 @@
+-- `Floats` has how float operations keep the order.
+pub mod Floats
