@@ -1,2 +1,4 @@
--- `Floats` has how float operations keep the order.
+-- `Floats` has how float operations keep the order, `Range` what a design's values are, `Start` that the start's are so.
 pub mod Floats
+pub mod Range
+pub mod Start
