@@ -5,9 +5,9 @@ use mathlib.Core.List.{List}
 use Prim.Native.Nat.{ℕ, zero, suc, _+_, _*_, _^_, _≤_, _<_, min}
 use native.Mathlib.Nat.{le-trans, le-of-eq, lt-of-le-of-lt as nat-lt, mul-one, one-mul, add-mul, suc-mul, mul-assoc, mul-le-mul-right, mul-pos, min-eq-left}
 use native.Mathlib.Omega.{arith}
-use borrow.Author.Tests.{ltb-true, not-false}
+use borrow.Author.Tests.{ltb-true, ltb-false, eqb-true, not-false}
 use lib.IntN.{ℤ, pos}
-use lib.Dec.{T, ltb}
+use lib.Dec.{T, ltb, eqb}
 use lib.Pow.{pow-pos, pow-lt, pow-add}
 use lib.ListN.{length, getD}
 use lib.Ieee.{Float, nan, inf, fin, Format, binary64, prec, emax, low, up, down, round, sum, add, sub, mul, div, lt, le, isNan, fits, ofBits}
@@ -16,13 +16,15 @@ use lib.Ieee.Exact.{round-exact}
 use lib.Ieee.Order.{le-of-values}
 use lib.Ieee.Positive.{positive}
 use Rattle.lists.specs.Lists.{foldTo, sumTo, anyTo, choose, zero64}
-use Rattle.lists.proofs.Laws.{any-not, passes-on, both}
+use Rattle.lists.proofs.Laws.{any-not, passes-on, neither, both}
 use Rattle.ieee.specs.Basic.{one64}
 use Rattle.ieee.proofs.Basic.{holds}
 use Rattle.ieee.proofs.Order.{le-transitive, le-reflexive}
 use Rattle.ieee.proofs.Bounds.{not-lt-le, lt-le}
 use Rattle.oc.specs.Start.{xMin, noRoom, solidVolume, targetOf, startDensity}
 use Rattle.update.proofs.Order.{Plus, Finite, finite-plus, positive-finite, lt-of-lt-of-le, lt-of-le-of-lt, add-plus, add-grows, mul-plus, div-plus, positive-of-tests, round-plus}
+use Rattle.plain.specs.Formulas.{sumOf}
+use Rattle.plain.specs.Opening.{Opening, elements, solidOf, totalOf, targetAt, volumeBad, fractionBad, firstRefusal}
 use Rattle.bounds.proofs.Floats.{finite-below, cross, add-over, sub-is, sub-under, sub-grows, sub-positive, mul-under, div-under, cross-lt}
 use Rattle.bounds.proofs.Range.{Range}
 
@@ -186,3 +188,57 @@ goes m e n d r ft fs st pr lr room =
         by : (b : Bool) → lt x y ≡ b → lt x y ≡ true
         by true k = k
         by false k = absurd (subst T h (not-lt-le x y p q k))
+
+-- the same of finite values
+starts-in : (t s r : Float) → Finite t → Finite s → Goes t s r
+starts-in t s r p q =
+    subst (λ (z : Float). Goes z s r) (sym (p .is)) (subst (λ (z : Float). Goes (fin false (p .m) (p .e)) z r) (sym (q .is)) (goes (p .m) (p .e) (q .m) (q .e) r))
+
+volume-of : (v : Float) → volumeBad v ≡ false → Volume v
+unfolding ofBits
+volume-of v h =
+    let b = both (lt zero64 v) (le v (ofBits binary64 0x4415_af1d_78b5_8c40)) (not-false _ h) in
+    let c = holds (le v (ofBits binary64 0x4415_af1d_78b5_8c40)) (b .1) in
+    record {
+      above = positive-of-tests v (b .0) (lt-of-le-of-lt v (ofBits binary64 0x4415_af1d_78b5_8c40) (inf false) c (unfold lt in refl));
+      below = le-transitive v (ofBits binary64 0x4415_af1d_78b5_8c40) most c (unfold le in tt);
+    }
+
+module _ (o : Opening) (none : firstRefusal o ≡ 0) where
+  -- the tests that were passed
+  record Passed : Type 0 where
+    marks : not (eqb (length (o .passive)) (elements o)) ≡ false
+    few : ltb 65535 (elements o) ≡ false
+    volumes : anyTo (λ k. volumeBad (getD (o .volumes) k nan)) (elements o) ≡ false
+    fraction : fractionBad (o .goal .fraction) ≡ false
+    room : noRoom (solidOf o) (totalOf o) (targetAt o) ≡ false
+
+  passed : Passed
+  unfolding firstRefusal
+  passed =
+      let p1 = passes-on _ 1 _ (omega arith) none in
+      let p2 = passes-on _ 2 _ (omega arith) (p1 .1) in
+      let p3 = passes-on _ 3 _ (omega arith) (p2 .1) in
+      let p4 = passes-on _ 4 _ (omega arith) (p3 .1) in
+      let p5 = passes-on _ 5 _ (omega arith) (p4 .1) in
+      let p6 = passes-on _ 6 _ (omega arith) (p5 .1) in
+      let p7 = passes-on _ 7 _ (omega arith) (p6 .1) in
+      record { marks = neither (not (eqb (length (o .centroids)) (elements o))) _ (p1 .0) .1; few = p3 .0; volumes = p4 .0; fraction = p5 .0; room = p7 .0 }
+
+  pub start-range : Range (startDensity (solidOf o) (totalOf o) (targetAt o))
+  unfolding sumOf solidVolume
+  start-range =
+      let p = passed in
+      let n = elements o in
+      let few : n ≤ 2 ^ 16 = (let k : n ≤ 65535 = ltb-false _ _ (p .few) in omega (arith, k)) in
+      let v : (k : ℕ) → k < n → Volume (getD (o .volumes) k nan) = λ k l. volume-of (getD (o .volumes) k nan) (any-not _ n (p .volumes) k l) in
+      let t = sums (λ k. getD (o .volumes) k nan) n few v in
+      let same : min (length (o .volumes)) (length (o .passive)) ≡ n = min-eq-left (le-of-eq (sym (eqb-true _ _ (not-false _ (p .marks))))) in
+      let s : Part (λ k. getD (o .volumes) k nan) (solidOf o) (totalOf o) =
+          subst (λ (m : ℕ). Part (λ k. getD (o .volumes) k nan) (foldTo (λ k a. choose (getD (o .passive) k false) (add binary64 a (getD (o .volumes) k nan)) a) zero64 m) (totalOf o)) (sym same)
+          (parts (λ k. getD (o .volumes) k nan) (λ k. getD (o .passive) k false) n few v) in
+      let ct : Finite (totalOf o) = finite-sum (λ k. getD (o .volumes) k nan) n (totalOf o) t in
+      let cs : Finite (solidOf o) = finite-below (solidOf o) (ct .m) (ct .e) (s .plus) (subst (λ (z : Float). T (le (solidOf o) z)) (ct .is) (s .under)) in
+      let b = both (lt zero64 (o .goal .fraction)) (lt (o .goal .fraction) one64) (not-false _ (p .fraction)) in
+      let r = o .goal .fraction in
+      starts-in (totalOf o) (solidOf o) r ct cs (t .fit) (s .fit) (s .under) (positive-of-tests r (b .0) (lt-of-lt-of-le r one64 (inf false) (b .1) (unfold le ofBits in tt))) (lt-le r one64 (b .1)) (p .room)
