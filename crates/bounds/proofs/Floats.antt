@@ -1,7 +1,7 @@
 -- How sums, differences, products and quotients of finite values with no minus keep the order, zero included. Assumes nothing.
 use mathlib.Core.Path.{_≡_, refl, sym, ap, _∙_, subst}
 use mathlib.Core.Bool.{Bool, true, false, cond, true≢false}
-use Prim.Native.Nat.{ℕ, zero, suc, _+_, _-_, _*_, _^_, _≤_, _<_}
+use Prim.Native.Nat.{ℕ, zero, suc, _+_, _-_, _*_, _^_, _≤_, _<_, zero-le}
 use native.Mathlib.Nat.{le-refl, le-trans, le-of-eq, le-add-right, sub-le, not-le-of-lt, mul-comm, mul-assoc, mul-left-comm, mul-sub, zero-mul, mul-pos, mul-le-mul-right, mul-le-mul-left, le-of-mul-le-mul-right}
 use native.Mathlib.Omega.{arith}
 use borrow.Author.Tests.{ltb-true, ltb-false, ne-eqb}
@@ -15,7 +15,7 @@ use lib.Ieee.Order.{le-of-values, round-mono}
 use lib.Ieee.Back.{round-whole}
 use lib.Ieee.Positive.{positive, positive-of-value, between}
 use Rattle.ieee.proofs.Order.{le-transitive, le-parts, parts-le}
-use Rattle.ieee.proofs.Comparing.{le-positive}
+use Rattle.ieee.proofs.Sign.{round-neg}
 use Rattle.ieee.proofs.Sqrt.Value.{grid}
 use Rattle.update.proofs.Order.{Plus, Finite, round-plus}
 
@@ -92,6 +92,26 @@ sub-under f m e n d t h =
     subst (λ (z : Float). T (le z (fin false m e))) (sym (sub-is f m e n d h))
     (below-own f m e (m * up e * down d - n * up d * down e) (down e * down d) t (mul-pos (down-pos e) (down-pos d))
     (le-trans (mul-le-mul-right (down e) (sub-le (m * up e * down d) (n * up d * down e))) (le-of-eq (sym (ring (m * up e) (down e) (down d))))))
+
+-- what has a minus is at most what has none
+minus-le : (x : Float) (m : ℕ) (e : ℤ) → Plus x → T (le (neg x) (fin false m e))
+unfolding neg
+minus-le nan m e p = absurd (unfold isNan in p .number)
+minus-le (inf true) m e p = absurd (true≢false (p .sign))
+minus-le (inf false) m e p = unfold le in tt
+minus-le (fin true n d) m e p = absurd (true≢false (p .sign))
+minus-le (fin false n d) m e p = parts-le true n d false m e (record { up = zero-le; down = zero-le })
+
+-- x - y is at most x, whichever is the greater
+pub sub-below : (f : Format) (m : ℕ) (e : ℤ) (n : ℕ) (d : ℤ) → T (fits f (fin false m e)) → T (le (sub f (fin false m e) (fin false n d)) (fin false m e))
+unfolding sub add neg sum
+sub-below f m e n d t = go (ltb (m * up e * down d) (n * up d * down e))
+  where
+    go : (b : Bool) → T (le (cond b (round f true (n * up d * down e - m * up e * down d) (down e * down d)) (round f false (m * up e * down d - n * up d * down e) (down e * down d))) (fin false m e))
+    go true = subst (λ (z : Float). T (le z (fin false m e))) (sym (round-neg f false (n * up d * down e - m * up e * down d) (down e * down d))) (minus-le (round f false (n * up d * down e - m * up e * down d) (down e * down d)) m e (round-plus f _ _))
+    go false =
+        below-own f m e (m * up e * down d - n * up d * down e) (down e * down d) t (mul-pos (down-pos e) (down-pos d))
+        (le-trans (mul-le-mul-right (down e) (sub-le (m * up e * down d) (n * up d * down e))) (le-of-eq (sym (ring (m * up e) (down e) (down d)))))
 
 less : (p q r s : ℕ) → p ≤ r → q ≡ s → p - q ≤ r - s
 less p q r s h e = omega arith

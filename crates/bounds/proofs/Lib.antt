@@ -1,4 +1,6 @@
--- `Floats` has how float operations keep the order, `Range` what a design's values are, `Start` that the start's are so.
+-- `Floats` has how float operations keep the order, `Range` what a design's values are, `Start` that the start's are so, `Updates` that an update keeps to
+-- its bounds.
 pub mod Floats
 pub mod Range
 pub mod Start
+pub mod Updates
