@@ -163,9 +163,9 @@ sub-positive f m e n d t u h l =
     let k = grid f false n d u in
     let c : n * up d * down e < m * up e * down d = cross-lt n d m e l in
     let a : T (le (round f false 1 (2 ^ low f)) (sub f (fin false m e) (fin false n d))) =
-        subst (λ (z : Float). T (le (round f false 1 (2 ^ low f)) z)) (sym (sub-is f m e n d h))
-        (round-mono f 1 (2 ^ low f) (m * up e * down d - n * up d * down e) (down e * down d) (pow-pos (low f)) (mul-pos (down-pos e) (down-pos d))
-        (least-gap (m * up e) (down e) (n * up d) (down d) (2 ^ low f) (g .m * 2 ^ g .j) (k .m * 2 ^ k .j) (pow-pos (low f)) (g .value .1) (k .value .1) c)) in
+    subst (λ (z : Float). T (le (round f false 1 (2 ^ low f)) z)) (sym (sub-is f m e n d h))
+    (round-mono f 1 (2 ^ low f) (m * up e * down d - n * up d * down e) (down e * down d) (pow-pos (low f)) (mul-pos (down-pos e) (down-pos d))
+    (least-gap (m * up e) (down e) (n * up d) (down d) (2 ^ low f) (g .m * 2 ^ g .j) (k .m * 2 ^ k .j) (pow-pos (low f)) (g .value .1) (k .value .1) c)) in
     between (round f false 1 (2 ^ low f)) (sub f (fin false m e) (fin false n d)) (fin false m e) (small f) (some m (up e) (down d) (n * up d * down e) c) a (sub-under f m e n d t h)
   where
     some : (m u w r : ℕ) → r < m * u * w → T (ltb 0 m)

@@ -148,8 +148,8 @@ module _ (f : Format) (m : ℕ) (e : ℤ) (n : ℕ) (d : ℤ) (p : ℕ) (q : ℤ
       let w = positive-finite whole whole-above in
       let c = part-finite in
       let a : T (le (div f (fin false (c .m) (c .e)) (fin false (w .m) (w .e))) (fin false 1 (pos 0))) =
-          div-under f (c .m) (c .e) (w .m) (w .e) (ltb-true 0 (w .m) (is-true _ (subst (λ (z : Float). T (positive z)) (w .is) whole-above)))
-          (subst (λ (z : Float). T (le z (fin false (w .m) (w .e)))) (c .is) (subst (λ (z : Float). T (le part z)) (w .is) part-under)) in
+      div-under f (c .m) (c .e) (w .m) (w .e) (ltb-true 0 (w .m) (is-true _ (subst (λ (z : Float). T (positive z)) (w .is) whole-above)))
+      (subst (λ (z : Float). T (le z (fin false (w .m) (w .e)))) (c .is) (subst (λ (z : Float). T (le part z)) (w .is) part-under)) in
       (subst (λ (z : Float). T (le (div f z whole) (fin false 1 (pos 0)))) (sym (c .is)) (subst (λ (z : Float). T (le (div f (fin false (c .m) (c .e)) z) (fin false 1 (pos 0)))) (sym (w .is)) a), div-plus f part whole c whole-above)
 
 -- ---- the start
@@ -177,8 +177,8 @@ goes m e n d r ft fs st pr lr room =
     let less : lt need g ≡ true = room-lt need g (add-plus binary64 s few (finite-plus s cs) (finite-plus few cf) .number) (finite-plus g cg .number) room in
     let sg : lt s g ≡ true = lt-of-le-of-lt s need g over less in
     let at : T (fits binary64 g) → T (le s g) → T (le g t) → T (le (div binary64 (sub binary64 g s) whole) one64) × Plus (div binary64 (sub binary64 g s) whole) =
-        subst (λ (z : Float). T (fits binary64 z) → T (le s z) → T (le z t) → T (le (div binary64 (sub binary64 z s) whole) one64) × Plus (div binary64 (sub binary64 z s) whole)) (sym (cg .is))
-        (λ a b c. quotient binary64 m e n d (cg .m) (cg .e) ft fs b c (lt-of-lt-of-le s g t sg gt)) in
+    subst (λ (z : Float). T (fits binary64 z) → T (le s z) → T (le z t) → T (le (div binary64 (sub binary64 z s) whole) one64) × Plus (div binary64 (sub binary64 z s) whole)) (sym (cg .is))
+    (λ a b c. quotient binary64 m e n d (cg .m) (cg .e) ft fs b c (lt-of-lt-of-le s g t sg gt)) in
     let q = at (mul-fits binary64 r t) (lt-le s g sg) gt in
     record { fit = div-fits binary64 (sub binary64 g s) whole; finite = finite-below (div binary64 (sub binary64 g s) whole) 1 (pos 0) (q .1) (q .0); most = q .0 }
   where
@@ -235,8 +235,8 @@ module _ (o : Opening) (none : firstRefusal o ≡ 0) where
       let t = sums (λ k. getD (o .volumes) k nan) n few v in
       let same : min (length (o .volumes)) (length (o .passive)) ≡ n = min-eq-left (le-of-eq (sym (eqb-true _ _ (not-false _ (p .marks))))) in
       let s : Part (λ k. getD (o .volumes) k nan) (solidOf o) (totalOf o) =
-          subst (λ (m : ℕ). Part (λ k. getD (o .volumes) k nan) (foldTo (λ k a. choose (getD (o .passive) k false) (add binary64 a (getD (o .volumes) k nan)) a) zero64 m) (totalOf o)) (sym same)
-          (parts (λ k. getD (o .volumes) k nan) (λ k. getD (o .passive) k false) n few v) in
+      subst (λ (m : ℕ). Part (λ k. getD (o .volumes) k nan) (foldTo (λ k a. choose (getD (o .passive) k false) (add binary64 a (getD (o .volumes) k nan)) a) zero64 m) (totalOf o)) (sym same)
+      (parts (λ k. getD (o .volumes) k nan) (λ k. getD (o .passive) k false) n few v) in
       let ct : Finite (totalOf o) = finite-sum (λ k. getD (o .volumes) k nan) n (totalOf o) t in
       let cs : Finite (solidOf o) = finite-below (solidOf o) (ct .m) (ct .e) (s .plus) (subst (λ (z : Float). T (le (solidOf o) z)) (ct .is) (s .under)) in
       let b = both (lt zero64 (o .goal .fraction)) (lt (o .goal .fraction) one64) (not-false _ (p .fraction)) in

@@ -28,7 +28,7 @@ use Rattle.bounds.specs.Bounds.{Bounded, UpdatedBy}
 use Rattle.bounds.proofs.Floats.{add-over, add-over-second, sub-below}
 use Rattle.bounds.proofs.Range.{Range}
 
-choose-either : (P : Float → Type 0) (t : Bool) (x y : Float) → P x → P y → P (choose t x y)
+pub choose-either : (P : Float → Type 0) (t : Bool) (x y : Float) → P x → P y → P (choose t x y)
 unfolding choose
 choose-either P true x y p q = p
 choose-either P false x y p q = q
@@ -100,7 +100,7 @@ module _ (old m : Float) (o : Range old) (k : Move m) where
         most = b .most;
       }
 
-one-range : Range one64
+pub one-range : Range one64
 unfolding ofBits fits le
 one-range = record { fit = tt; finite = record { m = 1; e = pos 0; is = refl }; most = tt }
 
