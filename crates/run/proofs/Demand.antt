@@ -12,6 +12,8 @@ use Rattle.plain.specs.Calls.{Result, World, openOf, openingOf, answerOf, lend,
 use Rattle.plain.proofs.Whole.{Stands}
 use Rattle.plain.proofs.Runs.{Opened as OpenedRun}
 use Rattle.plain.proofs.Demand.{demand}
+use Rattle.bounds.specs.Bounds.{WithinRun}
+use Rattle.bounds.proofs.Runs.{within-run}
 use Rattle.run.specs.Made.{MadeOpen, Made, openResult, answerResult, callOf, MetOpen, Met, AllMet, seenFrom, seenShut, seenBy, opened, seenRun, worldMade}
 
 -- ---- a call that meets its contract gives the function's result
@@ -61,6 +63,7 @@ answersFrom w more = map (fed (w .lists)) (map callOf more)
 pub record Demand3 (w : World) (b : MadeOpen) (more : List Made) : Type 0 where
   pub same : seenRun w b more ≡ plainRun (openingFrom w b) (answersFrom w more)
   pub opened-run : entryOf (openingFrom w b) ≡ Opens → OpenedRun (openingFrom w b) (seenRun w b more)
+  pub within : entryOf (openingFrom w b) ≡ Opens → WithinRun (openingFrom w b) (seenRun w b more)
   pub stands : entryOf (openingFrom w b) ≡ Opens → Stands (worldMade (opened w b) more) (runFrom (plainStart (openingFrom w b)) (answersFrom w more))
   pub refused : (entryOf (openingFrom w b) ≡ Opens → ⊥) → NoRun (worldMade (opened w b) more .state)
 
@@ -76,6 +79,7 @@ demand-3 w b more h m all =
     record {
       same = seen ∙ d .same;
       opened-run = λ z. subst (OpenedRun (openingFrom w b)) (sym seen) (d .opened z);
+      within = λ z. subst (WithinRun (openingFrom w b)) (sym (seen ∙ d .same)) (within-run (openingFrom w b) (answersFrom w more) z);
       stands = λ z. subst (λ (v : World). Stands v (runFrom (plainStart (openingFrom w b)) (answersFrom w more))) (sym left) (d .stands z);
       refused = λ z. subst (λ (v : World). NoRun (v .state)) (sym left) (d .refused z);
     }
