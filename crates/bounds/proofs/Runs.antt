@@ -1,11 +1,11 @@
 -- The bounds of every update of a run: by induction on the answers. Assumes nothing.
-use mathlib.Core.Path.{_≡_, refl, sym, _∙_, subst}
+use mathlib.Core.Path.{_≡_, refl, sym, subst}
 use mathlib.Core.Bool.{Bool, true, false}
 use mathlib.Core.List.{List, [], _∷_}
 use Prim.Native.Nat.{ℕ, zero, suc, _<_}
 use native.Mathlib.Omega.{arith}
 use lib.ListN.{length, getD}
-use lib.Ieee.{Float, binary64, div, le, fits, ofBits}
+use lib.Ieee.{binary64, div, le, fits, ofBits}
 use Rattle.lists.specs.Lists.{choose}
 use Rattle.lists.proofs.Laws.{length-tabulate, getD-tabulate}
 use Rattle.ieee.specs.Basic.{one64}
@@ -19,7 +19,7 @@ use Rattle.plain.specs.declared.Course.the-variants.{Onward, Ends}
 use Rattle.plain.specs.declared.Entry.the-variants.{Opens}
 use Rattle.plain.specs.Formulas.{Steep, s1, s2, s4, s8, s16, sharpness, Case, moveAt, givenAt, updateAt, recordAt}
 use Rattle.plain.specs.Opening.{Opening, solidOf, totalOf, targetAt, firstRefusal, atFirst, entryOf, caseOf, startOf}
-use Rattle.plain.specs.Plain.{Answer, Out, Seen, shown, inOrder, judged, firstStop, Run, plainStart, askedOf, updated, stopsOf, onward, checksOf, after, answered, leftOf, plainFrom, plainRun}
+use Rattle.plain.specs.Plain.{Answer, Out, Seen, inOrder, judged, firstStop, Run, plainStart, askedOf, updated, stopsOf, onward, checksOf, after, answered, leftOf, plainFrom, plainRun}
 use Rattle.plain.proofs.Runs.{given-kept}
 use Rattle.bounds.specs.Bounds.{UpdatedBy, Within, none, kept, moved, WithinRun, opened}
 use Rattle.bounds.proofs.Range.{Range}

@@ -1,14 +1,13 @@
 -- The start's density lies from 0 to 1 where the opening is not refused: volumes and shares are such that nothing overflows, and there is room. Assumes nothing.
 use mathlib.Core.Path.{_≡_, refl, sym, ap, _∙_, subst}
-use mathlib.Core.Bool.{Bool, true, false, not, _&&_, true≢false}
-use mathlib.Core.List.{List}
+use mathlib.Core.Bool.{Bool, true, false, not}
 use Prim.Native.Nat.{ℕ, zero, suc, _+_, _*_, _^_, _≤_, _<_, min}
-use native.Mathlib.Nat.{le-trans, le-of-eq, lt-of-le-of-lt as nat-lt, mul-one, one-mul, add-mul, suc-mul, mul-assoc, mul-le-mul-right, mul-pos, min-eq-left}
+use native.Mathlib.Nat.{le-of-eq, lt-of-le-of-lt as nat-lt, mul-one, one-mul, suc-mul, mul-assoc, mul-le-mul-right, min-eq-left}
 use native.Mathlib.Omega.{arith}
 use borrow.Author.Tests.{ltb-true, ltb-false, eqb-true, not-false}
 use lib.IntN.{ℤ, pos}
 use lib.Dec.{T, ltb, eqb}
-use lib.Pow.{pow-pos, pow-lt, pow-add}
+use lib.Pow.{pow-lt, pow-add}
 use lib.ListN.{length, getD}
 use lib.Ieee.{Float, nan, inf, fin, Format, binary64, prec, emax, low, up, down, round, sum, add, sub, mul, div, lt, le, isNan, fits, ofBits}
 use lib.Ieee.Fits.{add-fits, sub-fits, mul-fits, div-fits}
@@ -25,7 +24,7 @@ use Rattle.oc.specs.Start.{xMin, noRoom, solidVolume, targetOf, startDensity}
 use Rattle.update.proofs.Order.{Plus, Finite, finite-plus, positive-finite, lt-of-lt-of-le, lt-of-le-of-lt, add-plus, add-grows, mul-plus, div-plus, positive-of-tests, round-plus}
 use Rattle.plain.specs.Formulas.{sumOf}
 use Rattle.plain.specs.Opening.{Opening, elements, solidOf, totalOf, targetAt, volumeBad, fractionBad, firstRefusal}
-use Rattle.bounds.proofs.Floats.{finite-below, cross, add-over, sub-is, sub-under, sub-grows, sub-positive, mul-under, div-under, cross-lt}
+use Rattle.bounds.proofs.Floats.{finite-below, cross, add-over, sub-is, sub-under, sub-grows, sub-positive, mul-under, div-under}
 use Rattle.bounds.proofs.Range.{Range}
 
 is-true : (b : Bool) → T b → b ≡ true

@@ -1,27 +1,25 @@
 -- An update of a design whose values lie from 0 to 1 keeps within its bounds, whatever its slopes, its rates and the volumes: a value is raised and then
 -- lowered, and the two bounds are in order. Assumes nothing.
 use mathlib.Core.Path.{_≡_, refl, sym, ap, _∙_, subst}
-use mathlib.Core.Bool.{Bool, true, false, not, cond}
+use mathlib.Core.Bool.{Bool, true, false}
 use mathlib.Core.List.{List}
-use Prim.Native.Nat.{ℕ, zero, suc, _-_, _*_, _<_}
-use native.Mathlib.Nat.{le-trans, le-of-eq, sub-le, mul-comm, mul-assoc, mul-pos, mul-le-mul-right}
+use Prim.Native.Nat.{ℕ, zero, suc, _<_}
 use lib.IntN.{ℤ, pos}
-use lib.Dec.{T, ltb}
+use lib.Dec.{T}
 use lib.ListN.{length, getD}
-use lib.Ieee.{Float, nan, inf, fin, Format, binary64, up, down, round, sum, neg, add, sub, mul, div, le, lt, isNan, fits, ofBits}
-use lib.Ieee.Fits.{down-pos, add-fits, sub-fits, mul-fits}
+use lib.Ieee.{Float, nan, fin, binary64, up, down, add, sub, mul, div, le, lt, fits, ofBits}
+use lib.Ieee.Fits.{add-fits, sub-fits, mul-fits}
 use lib.Ieee.Positive.{between}
-use Rattle.lists.specs.Lists.{tabulate, choose, zero64}
+use Rattle.lists.specs.Lists.{choose, zero64}
 use Rattle.lists.proofs.Laws.{getD-tabulate, choose-true, choose-false}
 use Rattle.ieee.specs.Basic.{one64, maxOf, minOf}
 use Rattle.ieee.specs.Sqrt.{sqrtOf}
-use Rattle.ieee.proofs.Order.{le-number, le-transitive, parts-le}
-use Rattle.ieee.proofs.Sign.{round-neg}
+use Rattle.ieee.proofs.Order.{le-number, le-transitive}
 use Rattle.ieee.proofs.Bounds.{max-either, min-either, max-left, max-right, min-left, min-right, raised-lowered}
 use Rattle.oc.specs.Start.{xMin}
 use Rattle.update.specs.Design.{grown, limited, nextOf, designAt}
 use Rattle.update.specs.Update.{Given, Stand, trial, first, raises, raised, halves, halved, whileTo, raisedAll, updated}
-use Rattle.update.proofs.Order.{Plus, Finite, number-left, positive-finite, round-plus}
+use Rattle.update.proofs.Order.{Finite, number-left, positive-finite}
 use Rattle.update.proofs.Bounds.{Move}
 use Rattle.plain.proofs.Update.{length-updated}
 use Rattle.bounds.specs.Bounds.{Bounded, UpdatedBy}

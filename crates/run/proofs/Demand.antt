@@ -1,14 +1,17 @@
 -- Demand 3, of the calls `open` and `answer`: whatever they return that meets their contracts is what the plain run shows. The contracts give the functions
 -- of crate `plain` call by call, and of these its theorem speaks. Assumes nothing.
 use mathlib.Core.Path.{_≡_, refl, sym, ap, _∙_, subst}
+use mathlib.Core.Bool.{true}
 use mathlib.Core.List.{List, [], _∷_, map}
 use Prim.Native.Nat.{ℕ}
 use Rattle.plain.specs.declared.Entry.the-variants.{Opens}
+use Rattle.plain.specs.declared.Phase.{Phase}
+use Rattle.plain.specs.declared.State.{State}
 use Rattle.plain.specs.declared.Reply.{Reply}
 use Rattle.plain.specs.declared.Reply.the-variants.{Refused, Solid, Round, Stop}
 use Rattle.plain.specs.Opening.{Opening, entryOf}
 use Rattle.plain.specs.Plain.{Out, Answer, Seen, unopened, plainRun, plainStart, runFrom}
-use Rattle.plain.specs.Calls.{Result, World, openOf, openingOf, answerOf, lend, worldAfter, outOf, leftAt, resultOf, callsFrom, callsShut, callsBy, callsRun, fed, NoRun, worldOpen, worldFrom}
+use Rattle.plain.specs.Calls.{Result, World, openOf, openingOf, answerOf, lend, worldAfter, outOf, leftAt, resultOf, callsFrom, callsShut, callsBy, callsRun, fed, NoRun, fresh, sound, soundIn, inTurn, worldOpen, worldFrom}
 use Rattle.plain.proofs.Whole.{Stands}
 use Rattle.plain.proofs.Runs.{Opened as OpenedRun}
 use Rattle.plain.proofs.Demand.{demand}
@@ -83,3 +86,17 @@ demand-3 w b more h m all =
       stands = λ z. subst (λ (v : World). Stands v (runFrom (plainStart (openingFrom w b)) (answersFrom w more))) (sym left) (d .stands z);
       refused = λ z. subst (λ (v : World). NoRun (v .state)) (sym left) (d .refused z);
     }
+
+-- ---- "No run is open on the fresh state that docs/ gives, nor on what a run's end, or an opening refused on such a state, leaves": the first here, the
+-- others are `stands`, which says of a run with no part that no run is open, and `refused`
+pub fresh-has-none : NoRun fresh
+unfolding fresh
+fresh-has-none = refl
+
+-- "all these pass 20's test, and an opening on them is in turn"
+pub none-passes : (s : State) → NoRun s → sound s ≡ true
+unfolding sound
+none-passes s e = ap (λ (p : Phase). soundIn p s) e
+
+pub none-in-turn : (s : State) → NoRun s → inTurn (s .phase) ≡ true
+none-in-turn s e = ap inTurn e
