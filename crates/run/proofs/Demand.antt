@@ -1,17 +1,22 @@
 -- Demand 3, of the calls `open` and `answer`: whatever they return that meets their contracts is what the plain run shows. The contracts give the functions
 -- of crate `plain` call by call, and of these its theorem speaks. Assumes nothing.
 use mathlib.Core.Path.{_≡_, refl, sym, ap, _∙_, subst}
+use mathlib.Core.Bool.{true}
 use mathlib.Core.List.{List, [], _∷_, map}
 use Prim.Native.Nat.{ℕ}
 use Rattle.plain.specs.declared.Entry.the-variants.{Opens}
+use Rattle.plain.specs.declared.Phase.{Phase}
+use Rattle.plain.specs.declared.State.{State}
 use Rattle.plain.specs.declared.Reply.{Reply}
 use Rattle.plain.specs.declared.Reply.the-variants.{Refused, Solid, Round, Stop}
 use Rattle.plain.specs.Opening.{Opening, entryOf}
 use Rattle.plain.specs.Plain.{Out, Answer, Seen, unopened, plainRun, plainStart, runFrom}
-use Rattle.plain.specs.Calls.{Result, World, openOf, openingOf, answerOf, lend, worldAfter, outOf, leftAt, resultOf, callsFrom, callsShut, callsBy, callsRun, fed, NoRun, worldOpen, worldFrom}
+use Rattle.plain.specs.Calls.{Result, World, openOf, openingOf, answerOf, lend, worldAfter, outOf, leftAt, resultOf, callsFrom, callsShut, callsBy, callsRun, fed, NoRun, fresh, sound, soundIn, inTurn, worldOpen, worldFrom}
 use Rattle.plain.proofs.Whole.{Stands}
 use Rattle.plain.proofs.Runs.{Opened as OpenedRun}
 use Rattle.plain.proofs.Demand.{demand}
+use Rattle.bounds.specs.Bounds.{WithinRun}
+use Rattle.bounds.proofs.Runs.{within-run}
 use Rattle.run.specs.Made.{MadeOpen, Made, openResult, answerResult, callOf, MetOpen, Met, AllMet, seenFrom, seenShut, seenBy, opened, seenRun, worldMade}
 
 -- ---- a call that meets its contract gives the function's result
@@ -61,6 +66,7 @@ answersFrom w more = map (fed (w .lists)) (map callOf more)
 pub record Demand3 (w : World) (b : MadeOpen) (more : List Made) : Type 0 where
   pub same : seenRun w b more ≡ plainRun (openingFrom w b) (answersFrom w more)
   pub opened-run : entryOf (openingFrom w b) ≡ Opens → OpenedRun (openingFrom w b) (seenRun w b more)
+  pub within : entryOf (openingFrom w b) ≡ Opens → WithinRun (openingFrom w b) (seenRun w b more)
   pub stands : entryOf (openingFrom w b) ≡ Opens → Stands (worldMade (opened w b) more) (runFrom (plainStart (openingFrom w b)) (answersFrom w more))
   pub refused : (entryOf (openingFrom w b) ≡ Opens → ⊥) → NoRun (worldMade (opened w b) more .state)
 
@@ -76,6 +82,21 @@ demand-3 w b more h m all =
     record {
       same = seen ∙ d .same;
       opened-run = λ z. subst (OpenedRun (openingFrom w b)) (sym seen) (d .opened z);
+      within = λ z. subst (WithinRun (openingFrom w b)) (sym (seen ∙ d .same)) (within-run (openingFrom w b) (answersFrom w more) z);
       stands = λ z. subst (λ (v : World). Stands v (runFrom (plainStart (openingFrom w b)) (answersFrom w more))) (sym left) (d .stands z);
       refused = λ z. subst (λ (v : World). NoRun (v .state)) (sym left) (d .refused z);
     }
+
+-- ---- "No run is open on the fresh state that docs/ gives, nor on what a run's end, or an opening refused on such a state, leaves": the first here, the
+-- others are `stands`, which says of a run with no part that no run is open, and `refused`
+pub fresh-has-none : NoRun fresh
+unfolding fresh
+fresh-has-none = refl
+
+-- "all these pass 20's test, and an opening on them is in turn"
+pub none-passes : (s : State) → NoRun s → sound s ≡ true
+unfolding sound
+none-passes s e = ap (λ (p : Phase). soundIn p s) e
+
+pub none-in-turn : (s : State) → NoRun s → inTurn (s .phase) ≡ true
+none-in-turn s e = ap inTurn e
