@@ -1,0 +1,3 @@
+pub mod Farthest
+pub mod Filled
+pub mod Lent
