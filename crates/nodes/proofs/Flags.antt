@@ -28,8 +28,8 @@ module _ (n : ℕ) (tris : List (List ℕ)) (surfaces starts kept : List ℕ) wh
   set-flags : (s : ℕ) → Adds n (flaggedSet tris surfaces starts kept s) (nodeOfSet tris surfaces starts kept s)
   unfolding flaggedSet nodeOfSet
   set-flags s =
-      fold-adds n (λ t keep. choose (inSet tris surfaces starts kept s t) (flagged (getD tris t []) 6 keep) keep) (λ t i. inSet tris surfaces starts kept s t && names (getD tris t []) 6 i)
-      (λ t. choose-adds n (inSet tris surfaces starts kept s t) (flagged (getD tris t []) 6) (names (getD tris t []) 6) (flagged-adds n (getD tris t []) 6)) (length tris)
+      fold-adds n (λ t keep. choose (inSet surfaces starts kept s t) (flagged (getD tris t []) 6 keep) keep) (λ t i. inSet surfaces starts kept s t && names (getD tris t []) 6 i)
+      (λ t. choose-adds n (inSet surfaces starts kept s t) (flagged (getD tris t []) 6) (names (getD tris t []) 6) (flagged-adds n (getD tris t []) 6)) (length tris)
 
   sets-flags : (sets : ℕ) → Adds n (flaggedSets tris surfaces starts kept sets) (λ i. anyTo (λ s. nodeOfSet tris surfaces starts kept s i) sets)
   unfolding flaggedSets

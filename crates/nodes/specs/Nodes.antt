@@ -14,15 +14,15 @@ ofSet starts kept s surface = anyTo (λ j. eqb (getD kept (getD starts s 0 + j) 
 unfoldable pub names : List ℕ → ℕ → ℕ → Bool
 names l m n = anyTo (λ k. eqb (getD l k 0) n) m
 
--- what a mesh's boundary and the kept sets are lent as: six nodes and a surface for each triangle
-module _ (tris : List (List ℕ)) (surfaces starts kept : List ℕ) where
-  -- triangle t is of set s
-  unfoldable pub inSet : ℕ → ℕ → Bool
-  inSet s t = ofSet starts kept s (getD surfaces t 0)
+-- triangle t, whose surface is lent beside it, is of set s
+unfoldable pub inSet : List ℕ → List ℕ → List ℕ → ℕ → ℕ → Bool
+inSet surfaces starts kept s t = ofSet starts kept s (getD surfaces t 0)
 
+-- triangles of six nodes with their surfaces, and the kept sets
+module _ (tris : List (List ℕ)) (surfaces starts kept : List ℕ) where
   -- n is one of the six nodes of a triangle of set s
   unfoldable pub nodeOfSet : ℕ → ℕ → Bool
-  nodeOfSet s n = anyTo (λ t. inSet s t && names (getD tris t []) 6 n) (length tris)
+  nodeOfSet s n = anyTo (λ t. inSet surfaces starts kept s t && names (getD tris t []) 6 n) (length tris)
 
   -- n is held, loaded, or a node of a triangle of one of so many sets
   unfoldable pub keptNode : List ℕ → List ℕ → ℕ → ℕ → Bool

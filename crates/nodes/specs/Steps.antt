@@ -12,7 +12,7 @@ flagged l m keep = foldTo (λ k keep′. set keep′ (getD l k 0) true) keep m
 
 -- the nodes of the triangles of set s are
 unfoldable pub flaggedSet : List (List ℕ) → List ℕ → List ℕ → List ℕ → ℕ → List Bool → List Bool
-flaggedSet tris surfaces starts kept s keep = foldTo (λ t keep′. choose (inSet tris surfaces starts kept s t) (flagged (getD tris t []) 6 keep′) keep′) keep (length tris)
+flaggedSet tris surfaces starts kept s keep = foldTo (λ t keep′. choose (inSet surfaces starts kept s t) (flagged (getD tris t []) 6 keep′) keep′) keep (length tris)
 
 -- those of so many sets are
 unfoldable pub flaggedSets : List (List ℕ) → List ℕ → List ℕ → List ℕ → ℕ → List Bool → List Bool

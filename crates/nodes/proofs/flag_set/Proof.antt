@@ -17,7 +17,7 @@ use Rattle.nodes.proofs.flag_triangle.Reads as flag-triangle-reads
 use Rattle.nodes.proofs.in_set.Reads as in-set-reads
 
 abbrev Inv-loop : tie.InvT-loop
-Inv-loop tris surfaces starts kept s keep₀ n t₀ keep t = (t ≤ n) × (length keep ≡ length keep₀) × (keep ≡ foldTo (λ i l. choose (inSet tris surfaces starts kept s i) (flagged (getD tris i []) 6 l) l) keep₀ t)
+Inv-loop tris surfaces starts kept s keep₀ n t₀ keep t = (t ≤ n) × (length keep ≡ length keep₀) × (keep ≡ foldTo (λ i l. choose (inSet surfaces starts kept s i) (flagged (getD tris i []) 6 l) l) keep₀ t)
 
 abbrev μ-loop : tie.MeasureT-loop
 μ-loop tris surfaces starts kept s keep₀ n t₀ keep t = n - t

@@ -1,0 +1,17 @@
+use borrow.Author.Needs.{needs}
+use Rattle.depth.proofs.cell_number.Statement.{statement}
+use Rattle.depth.proofs.cell_number.Tie as tie
+use Rattle.depth.proofs.cell_number.Reads as reads
+use Rattle.depth.proofs.cell_number.Lts as lts
+use Rattle.ieee.proofs.whole.floor_at.Reads as floor-at-reads
+
+-- src/lib.rt:107:5
+floor-at-requires : tie.Need-floor-at-requires
+floor-at-requires c κs = search needs
+
+-- src/lib.rt:104:1
+returns : tie.Need-returns
+returns c = ?
+
+pub cell-number-spec : {M : Type 1} → statement M
+cell-number-spec = tie.close (tie.spec floor-at-requires returns)

@@ -1,0 +1,46 @@
+use borrow.Author.Needs.{needs}
+use Rattle.depth.proofs.corners.Statement.{statement}
+use Rattle.depth.proofs.corners.Tie as tie
+use Rattle.depth.proofs.corners.Reads as reads
+use Rattle.depth.proofs.corners.Lts as lts
+use Rattle.depth.proofs.node.Reads as node-reads
+
+-- src/lib.rt:46:24
+array-read-node : tie.Need-array-read-node
+array-read-node c = search needs
+
+-- src/lib.rt:46:12
+node-requires : tie.Need-node-requires
+node-requires c κs = search needs
+
+-- src/lib.rt:47:24
+array-read-node-2 : tie.Need-array-read-node-2
+array-read-node-2 c = search needs
+
+-- src/lib.rt:47:12
+node-requires-2 : tie.Need-node-requires-2
+node-requires-2 c κs = search needs
+
+-- src/lib.rt:48:24
+array-read-node-3 : tie.Need-array-read-node-3
+array-read-node-3 c = search needs
+
+-- src/lib.rt:48:12
+node-requires-3 : tie.Need-node-requires-3
+node-requires-3 c κs = search needs
+
+-- src/lib.rt:42:1
+returns : tie.Need-returns
+returns c = ?
+
+pub corners-spec : {M : Type 1} → statement M
+corners-spec =
+    tie.close
+    (tie.spec
+    array-read-node
+    node-requires
+    array-read-node-2
+    node-requires-2
+    array-read-node-3
+    node-requires-3
+    returns)
