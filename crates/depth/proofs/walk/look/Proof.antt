@@ -1,3 +1,31 @@
+use mathlib.Core.Path.{_≡_, refl, sym, ap, _∙_}
+use mathlib.Core.Bool.{Bool, true, false, _||_, _&&_}
+use mathlib.Core.List.{List, [], _∷_}
+use Prim.Native.Nat.{ℕ, _+_, _-_, _^_, _≤_, _<_, min}
+use native.Mathlib.Omega.{arith}
+use native.Mathlib.Nat.{le-antisymm}
+use lib.ListN.{length, getD, set, length-set, List·getD-eq-default}
+use lib.Dec.{eqb, leb, ltb}
+use lib.Ieee.{Float, binary64, div, mul, le, lt, nan}
+use denote.Ref.{now}
+use Rattle.lists.specs.Lists.{tabulate, overwrite, foldTo, anyTo, choose, zero64}
+use Rattle.lists.proofs.Laws.{overwrite-none, overwrite-more, foldTo-none, foldTo-more, any-none, any-step, choose-true, choose-false}
+use Rattle.ieee.specs.Basic.{maxOf, isFinite}
+use Rattle.ieee.specs.Whole.{floorAt}
+use Rattle.geom.specs.Vectors.{vec, least, greatest, dist}
+use Rattle.geom.specs.declared.Vec3.{Vec3}
+use Rattle.mesh.specs.Mesh.{point, stored, origin, nodeAt, nodeOf}
+use Rattle.faces.specs.Triangle.{dist2ToTriangle}
+use Rattle.cells.specs.Cells.{axis, boxCell, inBox, changed}
+use Rattle.cells.specs.Filing.{Filed, Room}
+use Rattle.cells.proofs.Walks.{Walked, walk-none, walk-done}
+use Rattle.cells.proofs.Changed.{changed-more}
+use Rattle.nodes.specs.Nodes.{inSet}
+use Rattle.nodes.proofs.Adds.{overwrite-all}
+use Rattle.depth.specs.Depth.{isDepth, cornersOf, longer, longestSide, cellSize, cellNumber, atMost, reaches}
+use Rattle.depth.specs.Steps.{cellAbout, Ready, nearAt, boxNear, seenAt, reached, reachedBy}
+use Rattle.depth.specs.declared.Triangle.{Triangle}
+use Rattle.depth.proofs.Near.{marked-stays, near-own, near-grows-x, near-grows-y, look-more}
 use borrow.Author.Needs.{needs}
 use Rattle.depth.proofs.walk.look.Statement.{statement}
 use Rattle.depth.proofs.walk.look.Tie as tie
@@ -24,7 +52,8 @@ slice-read-if1 c = search needs
 
 -- src/walk.rt:40:9
 returns : tie.Need-returns
-returns c = ?
+returns c = let a = c .before .before .before .before .before .args in
+    marked-stays (now (a .marks)) (getD (now (a .order)) (a .k) 0) _ (c .if1 .taken)
 
 -- src/walk.rt:42:13
 mul-c : tie.Need-mul-c
@@ -72,15 +101,18 @@ same-length c = search needs
 
 -- src/walk.rt:22:1
 returns-2 : tie.Need-returns-2
-returns-2 c = ?
+unfolding seenAt nearAt
+returns-2 c = sym (choose-true _ _ _ (rw (sym (c .before .before .before .before .in-column .ensures) ∙ c .before .before .before .if2 .taken) (sym (c .before .is-near .ensures) ∙ c .if3 .taken)))
 
 -- src/walk.rt:22:1
 returns-3 : tie.Need-returns-3
-returns-3 c = ?
+unfolding seenAt nearAt
+returns-3 c = sym (choose-false _ _ _ (rw (sym (c .before .before .before .before .in-column .ensures) ∙ c .before .before .before .if2 .taken) (sym (c .before .is-near .ensures) ∙ c .if3 .left)))
 
 -- src/walk.rt:22:1
 returns-4 : tie.Need-returns-4
-returns-4 c = ?
+unfolding seenAt
+returns-4 c = sym (choose-false _ _ _ (rw (sym (c .before .in-column .ensures) ∙ c .if2 .left)))
 
 pub look-spec : {M : Type 1} → statement M
 look-spec =
