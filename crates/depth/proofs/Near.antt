@@ -9,8 +9,7 @@ use lib.Seq.{set-getD}
 use lib.Ieee.{Float}
 use Rattle.lists.specs.Lists.{choose}
 use Rattle.lists.proofs.Laws.{both, choose-true, choose-false}
-use Rattle.cells.specs.Cells.{inBox, changed}
-use Rattle.cells.specs.Filing.{Filed}
+use Rattle.cells.specs.Cells.{inBox}
 use Rattle.cells.proofs.Changed.{Grows, grows-over}
 use Rattle.cells.proofs.Walks.{Walked, walk-hit, walk-miss}
 use Rattle.cells.proofs.Boxes.{box-own, box-cell, grows-x, grows-y}

@@ -41,11 +41,18 @@ cellNumber v size = floorAt (div binary64 v size)
 unfoldable pub axisNear : Float → Float → Float → Float → Bool
 axisNear size lo hi v = leb (cellNumber lo size) (cellNumber v size + 1) && leb (cellNumber v size) (cellNumber hi size + 1)
 
+-- the corners of a triangle's box
+unfoldable pub lowOf : Triangle → Vec3
+lowOf t = least (least (t .a) (t .b)) (t .c)
+
+unfoldable pub highOf : Triangle → Vec3
+highOf t = greatest (greatest (t .a) (t .b)) (t .c)
+
 -- 01: "only if its cells come within one of the middle's cell on each axis": the cells of a triangle's box
 unfoldable pub cellsNear : Float → Triangle → Vec3 → Bool
 cellsNear size t p =
-    let lo = least (least (t .a) (t .b)) (t .c) in
-    let hi = greatest (greatest (t .a) (t .b)) (t .c) in
+    let lo = lowOf t in
+    let hi = highOf t in
     axisNear size (lo .x) (hi .x) (p .x) && (axisNear size (lo .y) (hi .y) (p .y) && axisNear size (lo .z) (hi .z) (p .z))
 
 -- 01: "a triangle marks an element at squared distance at most depth²": the square is one product

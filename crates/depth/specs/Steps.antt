@@ -1,5 +1,5 @@
 -- How the code goes about the elements near a triangle. No caller must believe this: `Depth` says what comes of it. Definitions only.
-use Prim.Native.Nat.{ℕ, _+_, _<_}
+use Prim.Native.Nat.{ℕ, _+_}
 use mathlib.Core.Path.{_≡_}
 use mathlib.Core.Bool.{Bool, true, _&&_}
 use mathlib.Core.List.{List, [], _∷_}

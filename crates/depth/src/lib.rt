@@ -116,7 +116,11 @@ pub fn cells_of(middles: &[[f64; 3]], size: f64, cells: &mut [[u64; 3]])
     let mut i = 0usize;
     while i < n {
         let p = middles[i];
-        cells[i] = [cell_number(p[0], size), cell_number(p[1], size), cell_number(p[2], size)];
+        cells[i] = [
+            cell_number(p[0], size),
+            cell_number(p[1], size),
+            cell_number(p[2], size),
+        ];
         i += 1usize;
     }
 }

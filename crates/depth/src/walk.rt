@@ -93,11 +93,37 @@ fn plane(
     requires { ⌜ Filed (now cells) (now order) (now first) m × (length (now cells) ≡ length (now middles)) × (length (now marks) ≡ length (now middles)) × (y0 ≤ y1) ⌝ }
     ensures { λ _. ⌜ now (marks .exit) ≡ changed (boxNear t limit (now (middles .entry)) (now (cells .entry)) x (x + 1) y0 (y1 + 1) z0 (z1 + 1)) (λ _ _. true) (now (marks .entry)) ⌝ }
 {
-    column(t, limit, m, x, y0, z0, z1, middles, cells, order, first, marks);
+    column(
+        t,
+        limit,
+        m,
+        x,
+        y0,
+        z0,
+        z1,
+        middles,
+        cells,
+        order,
+        first,
+        marks,
+    );
     let mut y = y0;
     while y < y1 {
         y += 1;
-        column(t, limit, m, x, y, z0, z1, middles, cells, order, first, marks);
+        column(
+            t,
+            limit,
+            m,
+            x,
+            y,
+            z0,
+            z1,
+            middles,
+            cells,
+            order,
+            first,
+            marks,
+        );
     }
 }
 
@@ -121,10 +147,38 @@ pub fn block(
     requires { ⌜ Filed (now cells) (now order) (now first) m × (length (now cells) ≡ length (now middles)) × (length (now marks) ≡ length (now middles)) × (y0 ≤ y1) × (x0 ≤ x1) ⌝ }
     ensures { λ _. ⌜ now (marks .exit) ≡ changed (boxNear t limit (now (middles .entry)) (now (cells .entry)) x0 (x1 + 1) y0 (y1 + 1) z0 (z1 + 1)) (λ _ _. true) (now (marks .entry)) ⌝ }
 {
-    plane(t, limit, m, x0, y0, y1, z0, z1, middles, cells, order, first, marks);
+    plane(
+        t,
+        limit,
+        m,
+        x0,
+        y0,
+        y1,
+        z0,
+        z1,
+        middles,
+        cells,
+        order,
+        first,
+        marks,
+    );
     let mut x = x0;
     while x < x1 {
         x += 1;
-        plane(t, limit, m, x, y0, y1, z0, z1, middles, cells, order, first, marks);
+        plane(
+            t,
+            limit,
+            m,
+            x,
+            y0,
+            y1,
+            z0,
+            z1,
+            middles,
+            cells,
+            order,
+            first,
+            marks,
+        );
     }
 }

@@ -1,32 +1,7 @@
-use mathlib.Core.Path.{_≡_, refl, sym, ap, _∙_}
-use mathlib.Core.Bool.{Bool, true, false, _||_, _&&_}
-use mathlib.Core.List.{List, [], _∷_}
-use Prim.Native.Nat.{ℕ, _+_, _-_, _^_, _≤_, _<_, min}
-use native.Mathlib.Omega.{arith}
-use native.Mathlib.Nat.{le-antisymm}
-use lib.ListN.{length, getD, set, length-set, List·getD-eq-default}
-use lib.Dec.{eqb, leb, ltb}
-use lib.Ieee.{Float, binary64, div, mul, le, lt, nan}
-use denote.Ref.{now}
-use Rattle.lists.specs.Lists.{tabulate, overwrite, foldTo, anyTo, choose, zero64}
-use Rattle.lists.proofs.Laws.{overwrite-none, overwrite-more, foldTo-none, foldTo-more, any-none, any-step, choose-true, choose-false}
-use Rattle.ieee.specs.Basic.{maxOf, isFinite}
-use Rattle.ieee.specs.Whole.{floorAt}
-use Rattle.geom.specs.Vectors.{vec, least, greatest, dist}
-use Rattle.geom.specs.declared.Vec3.{Vec3}
-use Rattle.mesh.specs.Mesh.{point, stored, origin, nodeAt, nodeOf}
-use Rattle.faces.specs.Triangle.{dist2ToTriangle}
-use Rattle.cells.specs.Cells.{axis, boxCell, inBox, changed}
-use Rattle.cells.specs.Filing.{Filed, Room}
-use Rattle.cells.proofs.Walks.{Walked, walk-none, walk-done}
-use Rattle.cells.proofs.Changed.{changed-more}
-use Rattle.nodes.specs.Nodes.{inSet}
-use Rattle.nodes.proofs.Adds.{overwrite-all}
-use Rattle.depth.specs.Depth.{isDepth, cornersOf, longer, longestSide, cellSize, cellNumber, atMost, reaches}
-use Rattle.depth.specs.Steps.{cellAbout, Ready, nearAt, boxNear, seenAt, reached, reachedBy}
-use Rattle.depth.specs.declared.Triangle.{Triangle}
-use Rattle.depth.proofs.Near.{marked-stays, near-box, near-own, near-grows-x, near-grows-y, look-more}
-use borrow.Author.Needs.{needs}
+-- `depth::cell_size` meets its contract: the larger of the two. Assumes nothing.
+use mathlib.Core.Path.{ap, _∙_}
+use Rattle.ieee.specs.Basic.{maxOf}
+use Rattle.depth.specs.Depth.{cellSize}
 use Rattle.depth.proofs.cell_size.Statement.{statement}
 use Rattle.depth.proofs.cell_size.Tie as tie
 use Rattle.depth.proofs.cell_size.Reads as reads
@@ -34,15 +9,12 @@ use Rattle.depth.proofs.cell_size.Lts as lts
 use Rattle.depth.proofs.longest.Reads as longest-reads
 use Rattle.ieee.proofs.max.Reads as max-reads
 
--- src/lib.rt:101:22
 longest-requires : tie.Need-longest-requires
 longest-requires c κs = c .before .before .before .pre
 
--- src/lib.rt:101:5
 max-requires : tie.Need-max-requires
 max-requires c κs = tt
 
--- src/lib.rt:89:1
 returns : tie.Need-returns
 unfolding cellSize
 returns c = c .max .ensures ∙ ap (maxOf (c .before .before .before .before .before .args .depth)) (c .before .longest .ensures)

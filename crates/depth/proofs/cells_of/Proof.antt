@@ -1,32 +1,17 @@
+-- `depth::cells_of` meets its contract. The invariant: the cells of the middles passed are written. Assumes nothing.
 use borrow.Author.Needs.{needs}
 use mathlib.Core.Path.{_≡_, refl, sym, ap, _∙_}
-use mathlib.Core.Bool.{Bool, true, false, _||_, _&&_}
-use mathlib.Core.List.{List, [], _∷_}
-use Prim.Native.Nat.{ℕ, _+_, _-_, _^_, _≤_, _<_, min}
+use mathlib.Core.List.{[], _∷_}
+use Prim.Native.Nat.{ℕ, _-_, _≤_}
 use native.Mathlib.Omega.{arith}
 use native.Mathlib.Nat.{le-antisymm}
-use lib.ListN.{length, getD, set, length-set, List·getD-eq-default}
-use lib.Dec.{eqb, leb, ltb}
-use lib.Ieee.{Float, binary64, div, mul, le, lt, nan}
+use lib.ListN.{length, getD, set, length-set}
 use denote.Ref.{now}
-use Rattle.lists.specs.Lists.{tabulate, overwrite, foldTo, anyTo, choose, zero64}
-use Rattle.lists.proofs.Laws.{overwrite-none, overwrite-more, foldTo-none, foldTo-more, any-none, any-step, choose-true, choose-false}
-use Rattle.ieee.specs.Basic.{maxOf, isFinite}
-use Rattle.ieee.specs.Whole.{floorAt}
-use Rattle.geom.specs.Vectors.{vec, least, greatest, dist}
-use Rattle.geom.specs.declared.Vec3.{Vec3}
-use Rattle.mesh.specs.Mesh.{point, stored, origin, nodeAt, nodeOf}
-use Rattle.faces.specs.Triangle.{dist2ToTriangle}
-use Rattle.cells.specs.Cells.{axis, boxCell, inBox, changed}
-use Rattle.cells.specs.Filing.{Filed, Room}
-use Rattle.cells.proofs.Walks.{Walked, walk-none, walk-done}
-use Rattle.cells.proofs.Changed.{changed-more}
-use Rattle.nodes.specs.Nodes.{inSet}
+use Rattle.lists.specs.Lists.{overwrite}
+use Rattle.lists.proofs.Laws.{overwrite-none, overwrite-more}
+use Rattle.mesh.specs.Mesh.{point}
 use Rattle.nodes.proofs.Adds.{overwrite-all}
-use Rattle.depth.specs.Depth.{isDepth, cornersOf, longer, longestSide, cellSize, cellNumber, atMost, reaches}
-use Rattle.depth.specs.Steps.{cellAbout, Ready, nearAt, boxNear, seenAt, reached, reachedBy}
-use Rattle.depth.specs.declared.Triangle.{Triangle}
-use Rattle.depth.proofs.Near.{marked-stays, near-own, near-grows-x, near-grows-y, look-more}
+use Rattle.depth.specs.Steps.{cellAbout}
 use Rattle.depth.proofs.cells_of.Statement.{statement}
 use Rattle.depth.proofs.cells_of.Tie as tie
 use Rattle.depth.proofs.cells_of.Reads as reads
@@ -39,59 +24,45 @@ Inv-loop middles size cells₀ n i₀ cells i = (i ≤ n) × (length cells ≡ l
 abbrev μ-loop : tie.MeasureT-loop
 μ-loop middles size cells₀ n i₀ cells i = n - i
 
--- src/lib.rt:117:5
 loop-holds : tie.Need-loop-holds Inv-loop μ-loop
 loop-holds c = (omega arith, refl, sym (overwrite-none _ _))
 
--- src/lib.rt:118:17
 mul-p : tie.Need-mul-p Inv-loop μ-loop
 mul-p c = omega arith
 
--- src/lib.rt:118:17
 shared-slice-copy-out-p : tie.Need-shared-slice-copy-out-p Inv-loop μ-loop
 shared-slice-copy-out-p c = omega arith
 
--- src/lib.rt:119:33
 array-read-cell-number : tie.Need-array-read-cell-number Inv-loop μ-loop
 array-read-cell-number c = search needs
 
--- src/lib.rt:119:21
 cell-number-requires : tie.Need-cell-number-requires Inv-loop μ-loop
 cell-number-requires c κs = tt
 
--- src/lib.rt:119:58
 array-read-cell-number-2 : tie.Need-array-read-cell-number-2 Inv-loop μ-loop
 array-read-cell-number-2 c = search needs
 
--- src/lib.rt:119:46
 cell-number-requires-2 : tie.Need-cell-number-requires-2 Inv-loop μ-loop
 cell-number-requires-2 c κs = tt
 
--- src/lib.rt:119:83
 array-read-cell-number-3 : tie.Need-array-read-cell-number-3 Inv-loop μ-loop
 array-read-cell-number-3 c = search needs
 
--- src/lib.rt:119:71
 cell-number-requires-3 : tie.Need-cell-number-requires-3 Inv-loop μ-loop
 cell-number-requires-3 c κs = tt
 
--- src/lib.rt:119:9
 mul-t8 : tie.Need-mul-t8 Inv-loop μ-loop
 mul-t8 c = omega arith
 
--- src/lib.rt:119:9
 slice-set-from-cells : tie.Need-slice-set-from-cells Inv-loop μ-loop
 slice-set-from-cells c = omega arith
 
--- src/lib.rt:120:9
 add-i : tie.Need-add-i Inv-loop μ-loop
 add-i c = omega arith
 
--- src/lib.rt:117:5
 loop-less : tie.Need-loop-less Inv-loop μ-loop
 loop-less c = omega arith
 
--- src/lib.rt:117:5
 loop-again : tie.Need-loop-again Inv-loop μ-loop
 unfolding cellAbout
 loop-again c = let l = c .before .before .before .before .before .loop in
@@ -100,11 +71,9 @@ loop-again c = let l = c .before .before .before .before .before .loop in
     rw (c .before .before .cell-number .ensures, c .before .cell-number2 .ensures, c .cell-number3 .ensures) in
     (omega arith, simp length-set (l .inv .1), ap (set (l .cells) (l .i)) e ∙ rw (l .inv .2) (overwrite-more _ _ _ (omega arith)))
 
--- src/lib.rt:111:1
 same-length : tie.Need-same-length Inv-loop μ-loop
 same-length c = c .before .loop .inv .1
 
--- src/lib.rt:111:1
 returns : tie.Need-returns Inv-loop μ-loop
 returns c = let a = c .before .before .args in
     let l = c .before .loop in

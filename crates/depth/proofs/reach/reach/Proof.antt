@@ -1,118 +1,101 @@
+-- `depth::reach::reach` meets its contract: the box that is walked holds all that the triangle reaches, and one with no cells holds nothing. Assumes nothing.
+use mathlib.Core.Path.{_≡_, ap, _∙_}
+use Prim.Native.Nat.{_+_, _-_, _^_, min}
+use denote.Ref.{now}
+use Rattle.geom.specs.declared.Vec3.{Vec3}
+use Rattle.depth.specs.Depth.{cellNumber, reaches, lowOf, highOf}
+use Rattle.depth.proofs.Covers.{cells-many, reach-done, reach-none-x, reach-none-y}
 use borrow.Author.Needs.{needs}
 use Rattle.depth.proofs.reach.reach.Statement.{statement}
 use Rattle.depth.proofs.reach.reach.Tie as tie
 use Rattle.depth.proofs.reach.reach.Reads as reads
 use Rattle.depth.proofs.reach.reach.Lts as lts
-use Rattle.cells.proofs.above.Reads as above-reads
-use Rattle.cells.proofs.below.Reads as below-reads
-use Rattle.depth.proofs.cell_number.Reads as cell-number-reads
+use Rattle.depth.proofs.reach.above.Reads as above-reads
+use Rattle.depth.proofs.reach.below.Reads as below-reads
+use Rattle.depth.proofs.reach.high.Reads as high-reads
+use Rattle.depth.proofs.reach.low.Reads as low-reads
 use Rattle.depth.proofs.walk.block.Reads as block-reads
-use Rattle.geom.proofs.Vec3.max.Reads as max-reads
-use Rattle.geom.proofs.Vec3.min.Reads as min-reads
 
--- src/reach.rt:28:14
-min-requires : tie.Need-min-requires
-min-requires c κs = search needs
+-- the cells of the box about the triangle
+ex0 : (u : tie.After-above3) → u .before .before .before .before .before .below .result ≡ cellNumber (lowOf (u .before .before .before .before .before .before .before .before .before .before .before .args .t) .x) (u .before .before .before .before .before .before .before .before .before .before .before .args .size) - 1
+ex0 u = u .before .before .before .before .before .below .ensures ∙ ap (λ (v : Vec3). cellNumber (v .x) (u .before .before .before .before .before .before .before .before .before .before .before .args .size) - 1) (u .before .before .before .before .before .before .before .low .ensures)
 
--- src/reach.rt:28:9
-min-requires-2 : tie.Need-min-requires-2
-min-requires-2 c κs = search needs
+ex1 : (u : tie.After-above3) → u .before .before .before .before .above .result ≡ min (cellNumber (highOf (u .before .before .before .before .before .before .before .before .before .before .before .args .t) .x) (u .before .before .before .before .before .before .before .before .before .before .before .args .size) + 1) (2 ^ 64 - 1)
+ex1 u = u .before .before .before .before .above .ensures ∙ ap (λ (v : Vec3). min (cellNumber (v .x) (u .before .before .before .before .before .before .before .before .before .before .before .args .size) + 1) (2 ^ 64 - 1)) (u .before .before .before .before .before .before .high .ensures)
 
--- src/reach.rt:29:14
-max-requires : tie.Need-max-requires
-max-requires c κs = search needs
+ey0 : (u : tie.After-above3) → u .before .before .before .below2 .result ≡ cellNumber (lowOf (u .before .before .before .before .before .before .before .before .before .before .before .args .t) .y) (u .before .before .before .before .before .before .before .before .before .before .before .args .size) - 1
+ey0 u = u .before .before .before .below2 .ensures ∙ ap (λ (v : Vec3). cellNumber (v .y) (u .before .before .before .before .before .before .before .before .before .before .before .args .size) - 1) (u .before .before .before .before .before .before .before .low .ensures)
 
--- src/reach.rt:29:9
-max-requires-2 : tie.Need-max-requires-2
-max-requires-2 c κs = search needs
+ey1 : (u : tie.After-above3) → u .before .before .above2 .result ≡ min (cellNumber (highOf (u .before .before .before .before .before .before .before .before .before .before .before .args .t) .y) (u .before .before .before .before .before .before .before .before .before .before .before .args .size) + 1) (2 ^ 64 - 1)
+ey1 u = u .before .before .above2 .ensures ∙ ap (λ (v : Vec3). min (cellNumber (v .y) (u .before .before .before .before .before .before .before .before .before .before .before .args .size) + 1) (2 ^ 64 - 1)) (u .before .before .before .before .before .before .high .ensures)
 
--- src/reach.rt:30:27
-cell-number-requires : tie.Need-cell-number-requires
-cell-number-requires c κs = search needs
+ez0 : (u : tie.After-above3) → u .before .below3 .result ≡ cellNumber (lowOf (u .before .before .before .before .before .before .before .before .before .before .before .args .t) .z) (u .before .before .before .before .before .before .before .before .before .before .before .args .size) - 1
+ez0 u = u .before .below3 .ensures ∙ ap (λ (v : Vec3). cellNumber (v .z) (u .before .before .before .before .before .before .before .before .before .before .before .args .size) - 1) (u .before .before .before .before .before .before .before .low .ensures)
 
--- src/reach.rt:30:9
+ez1 : (u : tie.After-above3) → u .above3 .result ≡ min (cellNumber (highOf (u .before .before .before .before .before .before .before .before .before .before .before .args .t) .z) (u .before .before .before .before .before .before .before .before .before .before .before .args .size) + 1) (2 ^ 64 - 1)
+ez1 u = u .above3 .ensures ∙ ap (λ (v : Vec3). min (cellNumber (v .z) (u .before .before .before .before .before .before .before .before .before .before .before .args .size) + 1) (2 ^ 64 - 1)) (u .before .before .before .before .before .before .high .ensures)
+
+low-requires : tie.Need-low-requires
+low-requires c κs = search needs
+
+high-requires : tie.Need-high-requires
+high-requires c κs = search needs
+
 below-requires : tie.Need-below-requires
 below-requires c κs = search needs
 
--- src/reach.rt:31:27
-cell-number-requires-2 : tie.Need-cell-number-requires-2
-cell-number-requires-2 c κs = search needs
-
--- src/reach.rt:31:9
 above-requires : tie.Need-above-requires
 above-requires c κs = search needs
 
--- src/reach.rt:32:27
-cell-number-requires-3 : tie.Need-cell-number-requires-3
-cell-number-requires-3 c κs = search needs
-
--- src/reach.rt:32:9
 below-requires-2 : tie.Need-below-requires-2
 below-requires-2 c κs = search needs
 
--- src/reach.rt:33:27
-cell-number-requires-4 : tie.Need-cell-number-requires-4
-cell-number-requires-4 c κs = search needs
-
--- src/reach.rt:33:9
 above-requires-2 : tie.Need-above-requires-2
 above-requires-2 c κs = search needs
 
--- src/reach.rt:34:27
-cell-number-requires-5 : tie.Need-cell-number-requires-5
-cell-number-requires-5 c κs = search needs
-
--- src/reach.rt:34:9
 below-requires-3 : tie.Need-below-requires-3
 below-requires-3 c κs = search needs
 
--- src/reach.rt:35:27
-cell-number-requires-6 : tie.Need-cell-number-requires-6
-cell-number-requires-6 c κs = search needs
-
--- src/reach.rt:35:9
 above-requires-3 : tie.Need-above-requires-3
 above-requires-3 c κs = search needs
 
--- src/reach.rt:37:9
 returns : tie.Need-returns
-returns c = ?
+returns c = let u = c .before in
+    let s = u .before .before .before .before .before .before .before .before .before .before .before in
+    let a = s .args in
+    reach-none-x (a .t) (a .size) (a .depth) (now (a .middles)) (now (a .cells)) (now (a .order)) (now (a .first)) (a .m) (s .pre .0) (u .before .before .before .before .before .below .result) (u .before .before .before .before .above .result) (u .before .before .before .below2 .result) (u .before .before .above2 .result) (u .before .below3 .result) (u .above3 .result) (ex0 u) (ex1 u) (ey0 u) (ey1 u) (ez0 u) (ez1 u) (now (a .marks)) (s .pre .1) (c .if1 .taken)
 
--- src/reach.rt:40:9
 returns-2 : tie.Need-returns-2
-returns-2 c = ?
+returns-2 c = let u = c .before .before in
+    let s = u .before .before .before .before .before .before .before .before .before .before .before in
+    let a = s .args in
+    reach-none-y (a .t) (a .size) (a .depth) (now (a .middles)) (now (a .cells)) (now (a .order)) (now (a .first)) (a .m) (s .pre .0) (u .before .before .before .before .before .below .result) (u .before .before .before .before .above .result) (u .before .before .before .below2 .result) (u .before .before .above2 .result) (u .before .below3 .result) (u .above3 .result) (ex0 u) (ex1 u) (ey0 u) (ey1 u) (ez0 u) (ez1 u) (now (a .marks)) (s .pre .1) (c .if2 .taken)
 
--- src/reach.rt:42:5
 block-requires : tie.Need-block-requires
-block-requires c κs = ?
+block-requires c κs = let s = c .before .before .before .before .before .before .before .before .before .before .before .before .before .before in
+    let n = cells-many (s .args .t) (s .args .size) (s .args .depth) (now (s .args .middles)) (now (s .args .cells)) (now (s .args .order)) (now (s .args .first)) (s .args .m) (s .pre .0) in
+    (s .pre .0 .filed, n, s .pre .1, c .before .if2 .left, c .before .before .if1 .left)
 
--- src/reach.rt:11:1
 same-length : tie.Need-same-length
 same-length c = search needs
 
--- src/reach.rt:11:1
 returns-3 : tie.Need-returns-3
-returns-3 c = ?
+returns-3 c = let u = c .before .before .before .before .before .before in
+    let s = u .before .before .before .before .before .before .before .before .before .before .before in
+    let a = s .args in
+    reach-done (a .t) (a .size) (a .depth) (now (a .middles)) (now (a .cells)) (now (a .order)) (now (a .first)) (a .m) (s .pre .0) (u .before .before .before .before .before .below .result) (u .before .before .before .before .above .result) (u .before .before .before .below2 .result) (u .before .before .above2 .result) (u .before .below3 .result) (u .above3 .result) (ex0 u) (ex1 u) (ey0 u) (ey1 u) (ez0 u) (ez1 u) (now (a .marks)) (c .before .before .block .last .1 .1 .1 .1 .1 .1 .1 .1 .1 .1 .1 .1 .1 .0) (s .pre .1) (c .before .before .block .ensures)
 
 pub reach-spec : {M : Type 1} → statement M
 reach-spec =
     tie.close
     (tie.spec
-    min-requires
-    min-requires-2
-    max-requires
-    max-requires-2
-    cell-number-requires
+    low-requires
+    high-requires
     below-requires
-    cell-number-requires-2
     above-requires
-    cell-number-requires-3
     below-requires-2
-    cell-number-requires-4
     above-requires-2
-    cell-number-requires-5
     below-requires-3
-    cell-number-requires-6
     above-requires-3
     returns
     returns-2

@@ -1,32 +1,16 @@
-use borrow.Author.Needs.{needs}
-use mathlib.Core.Path.{_≡_, refl, sym, ap, _∙_}
-use mathlib.Core.Bool.{Bool, true, false, _||_, _&&_}
-use mathlib.Core.List.{List, [], _∷_}
-use Prim.Native.Nat.{ℕ, _+_, _-_, _^_, _≤_, _<_, min}
+-- `depth::walk::block` meets its contract. The invariant: the planes up to x are walked, whatever list the first one found. Assumes nothing.
+use mathlib.Core.Path.{_≡_, refl, _∙_}
+use mathlib.Core.Bool.{Bool, true}
+use mathlib.Core.List.{List}
+use Prim.Native.Nat.{_+_, _-_, _≤_}
 use native.Mathlib.Omega.{arith}
 use native.Mathlib.Nat.{le-antisymm}
-use lib.ListN.{length, getD, set, length-set, List·getD-eq-default}
-use lib.Dec.{eqb, leb, ltb}
-use lib.Ieee.{Float, binary64, div, mul, le, lt, nan}
+use lib.ListN.{length}
 use denote.Ref.{now}
-use Rattle.lists.specs.Lists.{tabulate, overwrite, foldTo, anyTo, choose, zero64}
-use Rattle.lists.proofs.Laws.{overwrite-none, overwrite-more, foldTo-none, foldTo-more, any-none, any-step, choose-true, choose-false}
-use Rattle.ieee.specs.Basic.{maxOf, isFinite}
-use Rattle.ieee.specs.Whole.{floorAt}
-use Rattle.geom.specs.Vectors.{vec, least, greatest, dist}
-use Rattle.geom.specs.declared.Vec3.{Vec3}
-use Rattle.mesh.specs.Mesh.{point, stored, origin, nodeAt, nodeOf}
-use Rattle.faces.specs.Triangle.{dist2ToTriangle}
-use Rattle.cells.specs.Cells.{axis, boxCell, inBox, changed}
-use Rattle.cells.specs.Filing.{Filed, Room}
-use Rattle.cells.proofs.Walks.{Walked, walk-none, walk-done}
+use Rattle.cells.specs.Cells.{changed}
 use Rattle.cells.proofs.Changed.{changed-more}
-use Rattle.nodes.specs.Nodes.{inSet}
-use Rattle.nodes.proofs.Adds.{overwrite-all}
-use Rattle.depth.specs.Depth.{isDepth, cornersOf, longer, longestSide, cellSize, cellNumber, atMost, reaches}
-use Rattle.depth.specs.Steps.{cellAbout, Ready, nearAt, boxNear, seenAt, reached, reachedBy}
-use Rattle.depth.specs.declared.Triangle.{Triangle}
-use Rattle.depth.proofs.Near.{marked-stays, near-box, near-own, near-grows-x, near-grows-y, look-more}
+use Rattle.depth.specs.Steps.{boxNear}
+use Rattle.depth.proofs.Near.{near-grows-x}
 use Rattle.depth.proofs.walk.block.Statement.{statement}
 use Rattle.depth.proofs.walk.block.Tie as tie
 use Rattle.depth.proofs.walk.block.Reads as reads
@@ -40,27 +24,21 @@ Inv-loop t limit m x0 x1 y0 y1 z0 z1 middles cells order first marks₀ x₀ mar
 abbrev μ-loop : tie.MeasureT-loop
 μ-loop t limit m x0 x1 y0 y1 z0 z1 middles cells order first marks₀ x₀ marks x = x1 - x
 
--- src/walk.rt:124:5
 plane-requires : tie.Need-plane-requires Inv-loop μ-loop
 plane-requires c κs = let s = c .before .before .before .before in (s .pre .0, s .pre .1, s .pre .2, s .pre .3)
 
--- src/walk.rt:126:5
 loop-holds : tie.Need-loop-holds Inv-loop μ-loop
 loop-holds c = (omega arith, c .before .before .before .before .before .before .before .pre .4, refl, λ w e. e)
 
--- src/walk.rt:127:9
 add-x : tie.Need-add-x Inv-loop μ-loop
 add-x c = omega (arith, c .loop-test .taken)
 
--- src/walk.rt:128:9
 plane-requires-2 : tie.Need-plane-requires-2 Inv-loop μ-loop
 plane-requires-2 c κs = let s = c .before .before .before .before .before .before .before .before .before .before in (s .pre .0, s .pre .1, c .before .before .loop .inv .2 ∙ c .before .before .before .before .before .plane .kept .1 .1 .1 .1 .1 .1 .1 .1 .1 .1 .1 .1 .0 ∙ s .pre .2, s .pre .3)
 
--- src/walk.rt:126:5
 loop-less : tie.Need-loop-less Inv-loop μ-loop
 loop-less c = omega (arith, c .before .before .before .before .loop-test .taken)
 
--- src/walk.rt:126:5
 loop-again : tie.Need-loop-again Inv-loop μ-loop
 loop-again c = let a = c .before .before .before .before .before .before .before .before .before .before .before .before .before .args in
     let l = c .before .before .before .before .before .loop in
@@ -73,11 +51,9 @@ loop-again c = let a = c .before .before .before .before .before .before .before
           w (l .marks) (t .last .1 .1 .1 .1 .1 .1 .1 .1 .1 .1 .1 .1 .0) (near-grows-x (a .t) (a .limit) (now (a .middles)) (now (a .cells)) (a .x0) k (a .y0) (a .y1 + 1) (a .z0) (a .z1 + 1) (omega (arith, l .inv .0))) (l .inv .3 w e) (t .ensures),
     )
 
--- src/walk.rt:105:1
 same-length : tie.Need-same-length Inv-loop μ-loop
 same-length c = c .before .loop .inv .2 ∙ c .before .before .before .before .plane .kept .1 .1 .1 .1 .1 .1 .1 .1 .1 .1 .1 .1 .0
 
--- src/walk.rt:105:1
 returns : tie.Need-returns Inv-loop μ-loop
 returns c = let l = c .before .loop in
     let e : l .x ≡ c .before .before .before .before .before .before .before .before .before .args .x1 = le-antisymm (l .inv .1) (c .loop-test .left) in

@@ -1,32 +1,15 @@
-use borrow.Author.Needs.{needs}
-use mathlib.Core.Path.{_≡_, refl, sym, ap, _∙_}
-use mathlib.Core.Bool.{Bool, true, false, _||_, _&&_}
-use mathlib.Core.List.{List, [], _∷_}
-use Prim.Native.Nat.{ℕ, _+_, _-_, _^_, _≤_, _<_, min}
+-- `depth::walk::column` meets its contract. The invariant: the positions passed are looked at, which is the walk of `cells`. Assumes nothing.
+use mathlib.Core.Path.{_≡_, refl, sym, _∙_}
+use mathlib.Core.Bool.{true}
+use Prim.Native.Nat.{_+_, _-_, _≤_, _<_}
 use native.Mathlib.Omega.{arith}
 use native.Mathlib.Nat.{le-antisymm}
-use lib.ListN.{length, getD, set, length-set, List·getD-eq-default}
-use lib.Dec.{eqb, leb, ltb}
-use lib.Ieee.{Float, binary64, div, mul, le, lt, nan}
+use lib.ListN.{length}
+use lib.Ieee.{lt}
 use denote.Ref.{now}
-use Rattle.lists.specs.Lists.{tabulate, overwrite, foldTo, anyTo, choose, zero64}
-use Rattle.lists.proofs.Laws.{overwrite-none, overwrite-more, foldTo-none, foldTo-more, any-none, any-step, choose-true, choose-false}
-use Rattle.ieee.specs.Basic.{maxOf, isFinite}
-use Rattle.ieee.specs.Whole.{floorAt}
-use Rattle.geom.specs.Vectors.{vec, least, greatest, dist}
-use Rattle.geom.specs.declared.Vec3.{Vec3}
-use Rattle.mesh.specs.Mesh.{point, stored, origin, nodeAt, nodeOf}
-use Rattle.faces.specs.Triangle.{dist2ToTriangle}
-use Rattle.cells.specs.Cells.{axis, boxCell, inBox, changed}
-use Rattle.cells.specs.Filing.{Filed, Room}
 use Rattle.cells.proofs.Walks.{Walked, walk-none, walk-done}
-use Rattle.cells.proofs.Changed.{changed-more}
-use Rattle.nodes.specs.Nodes.{inSet}
-use Rattle.nodes.proofs.Adds.{overwrite-all}
-use Rattle.depth.specs.Depth.{isDepth, cornersOf, longer, longestSide, cellSize, cellNumber, atMost, reaches}
-use Rattle.depth.specs.Steps.{cellAbout, Ready, nearAt, boxNear, seenAt, reached, reachedBy}
-use Rattle.depth.specs.declared.Triangle.{Triangle}
-use Rattle.depth.proofs.Near.{marked-stays, near-box, near-own, near-grows-x, near-grows-y, look-more}
+use Rattle.depth.specs.Steps.{boxNear}
+use Rattle.depth.proofs.Near.{near-box, near-own, look-more}
 use Rattle.depth.proofs.walk.column.Statement.{statement}
 use Rattle.depth.proofs.walk.column.Tie as tie
 use Rattle.depth.proofs.walk.column.Reads as reads
@@ -41,11 +24,9 @@ Inv-loop t limit m x y z0 z1 middles cells order first marks₀ k₀ to marks k 
 abbrev μ-loop : tie.MeasureT-loop
 μ-loop t limit m x y z0 z1 middles cells order first marks₀ k₀ to marks k = to - k
 
--- src/walk.rt:68:9
 span-requires : tie.Need-span-requires Inv-loop μ-loop
 span-requires c κs = (c .before .before .before .pre .0 .some, c .before .before .before .pre .0 .firsts)
 
--- src/walk.rt:71:5
 loop-holds : tie.Need-loop-holds Inv-loop μ-loop
 loop-holds c = let a = c .before .before .before .before .args in
     let s = c .span .ensures .some (now (a .cells)) (now (a .order)) (c .before .before .before .before .pre .0) refl in (
@@ -56,7 +37,6 @@ loop-holds c = let a = c .before .before .before .before .args in
       walk-none (now (a .cells)) (now (a .order)) (now (a .first)) (a .m) (boxNear (a .t) (a .limit) (now (a .middles)) (now (a .cells)) (a .x) (a .x + 1) (a .y) (a .y + 1) (a .z0) (a .z1 + 1)) (near-own (a .t) (a .limit) (now (a .middles)) (now (a .cells)) (a .x) (a .x + 1) (a .y) (a .y + 1) (a .z0) (a .z1 + 1)) (λ _ _. true) true (now (a .marks)) (c .span .result .from),
     )
 
--- src/walk.rt:72:9
 look-requires : tie.Need-look-requires Inv-loop μ-loop
 look-requires c κs = let s = c .before .before .before .before .before .before .before in
     let l = c .before .before .loop in
@@ -65,15 +45,12 @@ look-requires c κs = let s = c .before .before .before .before .before .before 
     let own = f .order-lt (l .k) lt in
     (omega (arith, f .orders), own, omega (arith, own, s .pre .1), omega (arith, own, s .pre .1, s .pre .2, l .inv .3))
 
--- src/walk.rt:73:9
 add-k : tie.Need-add-k Inv-loop μ-loop
 add-k c = omega arith
 
--- src/walk.rt:71:5
 loop-less : tie.Need-loop-less Inv-loop μ-loop
 loop-less c = omega arith
 
--- src/walk.rt:71:5
 loop-again : tie.Need-loop-again Inv-loop μ-loop
 loop-again c = let s = c .before .before .before .before .before .before .before .before .before .before in
     let a = s .args in
@@ -87,11 +64,9 @@ loop-again c = let s = c .before .before .before .before .before .before .before
       look-more (a .t) (a .limit) (now (a .middles)) (now (a .cells)) (now (a .order)) (now (a .first)) (a .m) (a .x) (a .y) (a .z0) (a .z1) (now (a .marks)) (c .before .before .before .before .before .before .span .result .from) (l .k) (l .marks) (o .last .1 .1 .1 .1 .1 .1 .1 .1 .1 .1 .0) (l .inv .0) lt (s .pre .0 .order-lt (l .k) lt) (l .inv .3 ∙ s .pre .2 ∙ sym (s .pre .1)) (l .inv .4) (o .ensures),
     )
 
--- src/walk.rt:51:1
 same-length : tie.Need-same-length Inv-loop μ-loop
 same-length c = c .before .loop .inv .3
 
--- src/walk.rt:51:1
 returns : tie.Need-returns Inv-loop μ-loop
 returns c = let s = c .before .before .before .before .before .before in
     let a = s .args in
