@@ -97,7 +97,7 @@ fn mark(
         keep,
         marks,
     );
-    if tets.len() == 0 {
+    if tets.len() < 1usize {
         return;
     }
     middles_of(nodes, tets, middles);

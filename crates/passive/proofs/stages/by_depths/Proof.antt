@@ -1,3 +1,26 @@
+use borrow.Author.Needs.{needs}
+use mathlib.Core.Path.{_≡_, refl, sym, ap, _∙_}
+use mathlib.Core.Bool.{Bool, true, false, not, _||_, _&&_}
+use mathlib.Core.List.{List, [], _∷_, _++_}
+use Prim.Native.Nat.{ℕ, _+_, _-_, _≤_, _<_}
+use native.Mathlib.Omega.{arith}
+use native.Mathlib.Nat.{le-antisymm}
+use lib.ListN.{length, getD, set, drop, length-set}
+use lib.Seq.{length-take-le, drop-at}
+use lib.Dec.{eqb, leb, ltb}
+use lib.Ieee.{Float, nan, le, lt}
+use denote.Ref.{now}
+use Rattle.lists.specs.Lists.{tabulate, overwrite, foldTo, anyTo, choose}
+use Rattle.lists.proofs.Laws.{overwrite-none, overwrite-more, any-none, any-step, choose-true, choose-false}
+use Rattle.mesh.specs.Mesh.{point, stored, million64, centroidOf, nodeOutside, nodesOutside}
+use Rattle.nodes.specs.Nodes.{inSet}
+use Rattle.nodes.proofs.Adds.{overwrite-all}
+use Rattle.depth.specs.Depth.{isDepth, cellSize}
+use Rattle.depth.specs.Steps.{reachedBy}
+use Rattle.passive.specs.Passive.{Problem, Lent, setsIn, passiveAt, tooMany, namesNone, anyNamesNone, thousandth64, depthOutside, depthsOutside, tooShort, refusalOf, Worked, Marked}
+use Rattle.passive.specs.Steps.{deepened, deepenedTo, Sized, Fitting, Roomy, Past}
+use Rattle.passive.proofs.Solid.{deepened-none, deepened-more, solid, solid-none, solid-front}
+use Rattle.passive.proofs.Fits.{leb-ltb}
 use Rattle.passive.proofs.stages.by_depths.Statement.{statement}
 use Rattle.passive.proofs.stages.by_depths.Tie as tie
 use Rattle.passive.proofs.stages.by_depths.Reads as reads
@@ -5,77 +28,110 @@ use Rattle.passive.proofs.stages.by_depths.Lts as lts
 use Rattle.depth.proofs.is_depth.Reads as is-depth-reads
 use Rattle.depth.proofs.reach.by_depth.Reads as by-depth-reads
 
+-- what the sets are read from
+abbrev sets-of : List (List Float) → List (List ℕ) → List ℕ → List ℕ → List ℕ → List Float → Problem
+sets-of nodes′ tris′ surfaces′ starts′ kept′ depths′ = record { nodes = nodes′; tets = []; tris = tris′; surfaces = surfaces′; held = []; loaded = []; starts = starts′; kept = kept′; depths = depths′ }
+
 abbrev Inv-loop : tie.InvT-loop
-Inv-loop nodes tris surfaces starts kept depths middles cells₀ order₀ place₀ first₀ marks₀ n s₀ cells order place first marks s =
-    ?
+Inv-loop nodes tris surfaces starts kept depths middles cells₀ order₀ place₀ first₀ marks₀ n s₀ cells order place first marks s = (s ≤ n) × (length cells ≡ length cells₀) × (length order ≡ length order₀) × (length place ≡ length place₀) × (length first ≡ length first₀) × (length marks ≡ length marks₀) × (marks ≡ deepenedTo (sets-of nodes tris surfaces starts kept depths) middles s marks₀)
 
 abbrev μ-loop : tie.MeasureT-loop
-μ-loop nodes tris surfaces starts kept depths middles cells₀ order₀ place₀ first₀ marks₀ n s₀ cells order place first marks s =
-    ?
+μ-loop nodes tris surfaces starts kept depths middles cells₀ order₀ place₀ first₀ marks₀ n s₀ cells order place first marks s = n - s
 
 -- src/stages.rt:43:5
 loop-holds : tie.Need-loop-holds Inv-loop μ-loop
-loop-holds c = ?
+loop-holds c = (omega arith, refl, refl, refl, refl, refl, deepened-none _ _ _)
 
 -- src/stages.rt:44:21
 mul-depth : tie.Need-mul-depth Inv-loop μ-loop
-mul-depth c = ?
+mul-depth c = omega arith
 
 -- src/stages.rt:44:21
 shared-slice-read-depth : tie.Need-shared-slice-read-depth Inv-loop μ-loop
-shared-slice-read-depth c = ?
+shared-slice-read-depth c = omega arith
 
 -- src/stages.rt:46:9
 add-s : tie.Need-add-s Inv-loop μ-loop
-add-s c = ?
+add-s c = omega arith
 
 -- src/stages.rt:47:12
 is-depth-requires : tie.Need-is-depth-requires Inv-loop μ-loop
-is-depth-requires c κs = ?
+is-depth-requires c κs = tt
 
 -- src/stages.rt:48:13
 by-depth-requires : tie.Need-by-depth-requires Inv-loop μ-loop
-by-depth-requires c κs = ?
+by-depth-requires c κs = let s = c .before .before .before .before .before .before .before .before .before .before .before .before .before .before .before .before .before .before in
+    let p = s .pre in
+    let l = c .before .before .before .before .before .before .before .before .before .loop in
+    ((p .some, p .few, l .inv .1 ∙ p .celled, l .inv .2 ∙ p .orders, l .inv .3 ∙ p .places, l .inv .4 ∙ p .firsts, l .inv .5 ∙ p .marked), (p .surfaced, omega (arith, p .begun, c .before .before .before .before .before .before .before .before .loop-test .taken)))
 
 -- src/stages.rt:43:5
 loop-less : tie.Need-loop-less Inv-loop μ-loop
-loop-less c = ?
+loop-less c = omega (arith, c .before .before .before .before .before .before .before .before .before .before .before .before .before .before .before .before .before .before .loop-test .taken)
 
 -- src/stages.rt:43:5
 loop-again : tie.Need-loop-again Inv-loop μ-loop
-loop-again c = ?
+unfolding deepened
+loop-again c = let s = c .before .before .before .before .before .before .before .before .before .before .before .before .before .before .before .before .before .before .before .before .before .before .before .before .before .before .before .before in
+    let a = s .args in
+    let l = c .before .before .before .before .before .before .before .before .before .before .before .before .before .before .before .before .before .before .before .loop in
+    let t = c .before .before .before .before .before .before .before .before .before .by-depth in
+    let q = sets-of (now (a .nodes)) (now (a .tris)) (now (a .surfaces)) (now (a .starts)) (now (a .kept)) (now (a .depths)) in
+    let one : t .last .1 .1 .1 .1 .1 .1 .1 .1 .1 .1 .1 .1 .0 ≡ deepened q (now (a .middles)) (l .s) (l .marks) = t .ensures ∙ sym (choose-true (isDepth (getD (now (a .depths)) (l .s) nan)) _ _ (sym (c .before .before .before .before .before .before .before .before .before .before .before .before .before .before .before .before .is-depth .ensures) ∙ c .before .before .before .before .before .before .before .before .before .before .before .before .before .before .before .if1 .taken)) in (
+      omega (arith, c .before .before .before .before .before .before .before .before .before .before .before .before .before .before .before .before .before .before .loop-test .taken),
+      t .kept .1 .1 .1 .1 .1 .1 .1 .1 .0 ∙ l .inv .1,
+      t .kept .1 .1 .1 .1 .1 .1 .1 .1 .1 .0 ∙ l .inv .2,
+      t .kept .1 .1 .1 .1 .1 .1 .1 .1 .1 .1 .0 ∙ l .inv .3,
+      t .kept .1 .1 .1 .1 .1 .1 .1 .1 .1 .1 .1 .0 ∙ l .inv .4,
+      t .kept .1 .1 .1 .1 .1 .1 .1 .1 .1 .1 .1 .1 .0 ∙ l .inv .5,
+      one ∙ ap (deepened q (now (a .middles)) (l .s)) (l .inv .6) ∙ deepened-more q (now (a .middles)) (l .s) (now (a .marks)),
+    )
 
 -- src/stages.rt:43:5
 loop-less-2 : tie.Need-loop-less-2 Inv-loop μ-loop
-loop-less-2 c = ?
+loop-less-2 c = omega (arith, c .before .before .before .loop-test .taken)
 
 -- src/stages.rt:43:5
 loop-again-2 : tie.Need-loop-again-2 Inv-loop μ-loop
-loop-again-2 c = ?
+unfolding deepened
+loop-again-2 c = let s = c .before .before .before .before .before .before .before .before .before .before .before .before .before in
+    let a = s .args in
+    let l = c .before .before .before .before .loop in
+    let q = sets-of (now (a .nodes)) (now (a .tris)) (now (a .surfaces)) (now (a .starts)) (now (a .kept)) (now (a .depths)) in
+    let one : l .marks ≡ deepened q (now (a .middles)) (l .s) (l .marks) = sym (choose-false (isDepth (getD (now (a .depths)) (l .s) nan)) _ _ (sym (c .before .is-depth .ensures) ∙ c .if1 .left)) in (
+      omega (arith, c .before .before .before .loop-test .taken),
+      l .inv .1,
+      l .inv .2,
+      l .inv .3,
+      l .inv .4,
+      l .inv .5,
+      one ∙ ap (deepened q (now (a .middles)) (l .s)) (l .inv .6) ∙ deepened-more q (now (a .middles)) (l .s) (now (a .marks)),
+    )
 
 -- src/stages.rt:24:1
 same-length : tie.Need-same-length Inv-loop μ-loop
-same-length c = ?
+same-length c = c .before .loop .inv .1
 
 -- src/stages.rt:24:1
 same-length-2 : tie.Need-same-length-2 Inv-loop μ-loop
-same-length-2 c = ?
+same-length-2 c = c .before .loop .inv .2
 
 -- src/stages.rt:24:1
 same-length-3 : tie.Need-same-length-3 Inv-loop μ-loop
-same-length-3 c = ?
+same-length-3 c = c .before .loop .inv .3
 
 -- src/stages.rt:24:1
 same-length-4 : tie.Need-same-length-4 Inv-loop μ-loop
-same-length-4 c = ?
+same-length-4 c = c .before .loop .inv .4
 
 -- src/stages.rt:24:1
 same-length-5 : tie.Need-same-length-5 Inv-loop μ-loop
-same-length-5 c = ?
+same-length-5 c = c .before .loop .inv .5
 
 -- src/stages.rt:24:1
 returns : tie.Need-returns Inv-loop μ-loop
-returns c = ?
+returns c = let a = c .before .before .before .before .before .before .before .before .before .before .args in
+    c .before .loop .inv .6 ∙ ap (λ (k : ℕ). deepenedTo (sets-of (now (a .nodes)) (now (a .tris)) (now (a .surfaces)) (now (a .starts)) (now (a .kept)) (now (a .depths))) (now (a .middles)) k (now (a .marks))) (le-antisymm (c .before .loop .inv .0) (c .loop-test .left))
 
 pub by-depths-spec : {M : Type 1} → statement M
 by-depths-spec =
