@@ -83,7 +83,8 @@ pub fn too_short(
             | ((marks < tets)
                 | ((keep < nodes)
                     | ((middles < tets)
-                        | ((cells < tets) | ((order < tets) | ((place < tets) | (first <= tets))))))))
+                        | ((cells < tets)
+                            | ((order < tets) | ((place < tets) | (first <= tets))))))))
 }
 
 // The first refusal, or 0.

@@ -1,4 +1,6 @@
-use borrow.Author.Needs.{needs}
+-- `passive::refuse::refusal` meets its contract: at each return the tests before it fail and its own holds. Assumes nothing.
+use mathlib.Core.Path.{sym, _∙_}
+use Rattle.lists.proofs.Laws.{choose-true, choose-false}
 use Rattle.passive.proofs.refuse.refusal.Statement.{statement}
 use Rattle.passive.proofs.refuse.refusal.Tie as tie
 use Rattle.passive.proofs.refuse.refusal.Reads as reads
@@ -7,41 +9,32 @@ use Rattle.passive.proofs.refuse.any_names_none.Reads as any-names-none
 use Rattle.passive.proofs.refuse.any_outside.Reads as any-outside-reads
 use Rattle.passive.proofs.refuse.depths_outside.Reads as depths-outside-reads
 
--- src/refuse.rt:100:9
 returns : tie.Need-returns
-returns c = ?
+returns c = sym (choose-true _ _ _ (c .if1 .taken))
 
--- src/refuse.rt:102:8
 any-names-none-requires : tie.Need-any-names-none-requires
-any-names-none-requires c κs = search needs
+any-names-none-requires c κs = tt
 
--- src/refuse.rt:103:9
 returns-2 : tie.Need-returns-2
-returns-2 c = ?
+returns-2 c = sym (choose-false _ _ _ (c .before .before .if1 .left) ∙ choose-true _ _ _ (sym (c .before .any-names-none .ensures) ∙ c .if2 .taken))
 
--- src/refuse.rt:105:8
 any-outside-requires : tie.Need-any-outside-requires
-any-outside-requires c κs = search needs
+any-outside-requires c κs = tt
 
--- src/refuse.rt:106:9
 returns-3 : tie.Need-returns-3
-returns-3 c = ?
+returns-3 c = sym (choose-false _ _ _ (c .before .before .before .before .if1 .left) ∙ choose-false _ _ _ (sym (c .before .before .before .any-names-none .ensures) ∙ c .before .before .if2 .left) ∙ choose-true _ _ _ (sym (c .before .any-outside .ensures) ∙ c .if3 .taken))
 
--- src/refuse.rt:108:8
 depths-outside-requires : tie.Need-depths-outside-requires
-depths-outside-requires c κs = search needs
+depths-outside-requires c κs = tt
 
--- src/refuse.rt:109:9
 returns-4 : tie.Need-returns-4
-returns-4 c = ?
+returns-4 c = sym (choose-false _ _ _ (c .before .before .before .before .before .before .if1 .left) ∙ choose-false _ _ _ (sym (c .before .before .before .before .before .any-names-none .ensures) ∙ c .before .before .before .before .if2 .left) ∙ choose-false _ _ _ (sym (c .before .before .before .any-outside .ensures) ∙ c .before .before .if3 .left) ∙ choose-true _ _ _ (sym (c .before .depths-outside .ensures) ∙ c .if4 .taken))
 
--- src/refuse.rt:112:9
 returns-5 : tie.Need-returns-5
-returns-5 c = ?
+returns-5 c = sym (choose-false _ _ _ (c .before .before .before .before .before .before .before .if1 .left) ∙ choose-false _ _ _ (sym (c .before .before .before .before .before .before .any-names-none .ensures) ∙ c .before .before .before .before .before .if2 .left) ∙ choose-false _ _ _ (sym (c .before .before .before .before .any-outside .ensures) ∙ c .before .before .before .if3 .left) ∙ choose-false _ _ _ (sym (c .before .before .depths-outside .ensures) ∙ c .before .if4 .left) ∙ choose-true _ _ _ (c .if5 .taken))
 
--- src/refuse.rt:90:1
 returns-6 : tie.Need-returns-6
-returns-6 c = ?
+returns-6 c = sym (choose-false _ _ _ (c .before .before .before .before .before .before .before .if1 .left) ∙ choose-false _ _ _ (sym (c .before .before .before .before .before .before .any-names-none .ensures) ∙ c .before .before .before .before .before .if2 .left) ∙ choose-false _ _ _ (sym (c .before .before .before .before .any-outside .ensures) ∙ c .before .before .before .if3 .left) ∙ choose-false _ _ _ (sym (c .before .before .depths-outside .ensures) ∙ c .before .if4 .left) ∙ choose-false _ _ _ (c .if5 .left))
 
 pub refusal-spec : {M : Type 1} → statement M
 refusal-spec =

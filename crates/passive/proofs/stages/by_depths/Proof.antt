@@ -1,26 +1,17 @@
-use borrow.Author.Needs.{needs}
+-- `passive::stages::by_depths` meets its contract. The invariant: what the sets passed reach is marked. Assumes nothing.
 use mathlib.Core.Path.{_≡_, refl, sym, ap, _∙_}
-use mathlib.Core.Bool.{Bool, true, false, not, _||_, _&&_}
-use mathlib.Core.List.{List, [], _∷_, _++_}
-use Prim.Native.Nat.{ℕ, _+_, _-_, _≤_, _<_}
+use mathlib.Core.List.{List, []}
+use Prim.Native.Nat.{ℕ, _-_, _≤_}
 use native.Mathlib.Omega.{arith}
 use native.Mathlib.Nat.{le-antisymm}
-use lib.ListN.{length, getD, set, drop, length-set}
-use lib.Seq.{length-take-le, drop-at}
-use lib.Dec.{eqb, leb, ltb}
-use lib.Ieee.{Float, nan, le, lt}
+use lib.ListN.{length, getD}
+use lib.Ieee.{Float, nan}
 use denote.Ref.{now}
-use Rattle.lists.specs.Lists.{tabulate, overwrite, foldTo, anyTo, choose}
-use Rattle.lists.proofs.Laws.{overwrite-none, overwrite-more, any-none, any-step, choose-true, choose-false}
-use Rattle.mesh.specs.Mesh.{point, stored, million64, centroidOf, nodeOutside, nodesOutside}
-use Rattle.nodes.specs.Nodes.{inSet}
-use Rattle.nodes.proofs.Adds.{overwrite-all}
-use Rattle.depth.specs.Depth.{isDepth, cellSize}
-use Rattle.depth.specs.Steps.{reachedBy}
-use Rattle.passive.specs.Passive.{Problem, Lent, setsIn, passiveAt, tooMany, namesNone, anyNamesNone, thousandth64, depthOutside, depthsOutside, tooShort, refusalOf, Worked, Marked}
-use Rattle.passive.specs.Steps.{deepened, deepenedTo, Sized, Fitting, Roomy, Past}
-use Rattle.passive.proofs.Solid.{deepened-none, deepened-more, solid, solid-none, solid-front}
-use Rattle.passive.proofs.Fits.{leb-ltb}
+use Rattle.lists.proofs.Laws.{choose-true, choose-false}
+use Rattle.depth.specs.Depth.{isDepth}
+use Rattle.passive.specs.Passive.{Problem}
+use Rattle.passive.specs.Steps.{deepened, deepenedTo}
+use Rattle.passive.proofs.Solid.{deepened-none, deepened-more}
 use Rattle.passive.proofs.stages.by_depths.Statement.{statement}
 use Rattle.passive.proofs.stages.by_depths.Tie as tie
 use Rattle.passive.proofs.stages.by_depths.Reads as reads
@@ -38,38 +29,30 @@ Inv-loop nodes tris surfaces starts kept depths middles cells₀ order₀ place�
 abbrev μ-loop : tie.MeasureT-loop
 μ-loop nodes tris surfaces starts kept depths middles cells₀ order₀ place₀ first₀ marks₀ n s₀ cells order place first marks s = n - s
 
--- src/stages.rt:43:5
 loop-holds : tie.Need-loop-holds Inv-loop μ-loop
 loop-holds c = (omega arith, refl, refl, refl, refl, refl, deepened-none _ _ _)
 
--- src/stages.rt:44:21
 mul-depth : tie.Need-mul-depth Inv-loop μ-loop
 mul-depth c = omega arith
 
--- src/stages.rt:44:21
 shared-slice-read-depth : tie.Need-shared-slice-read-depth Inv-loop μ-loop
 shared-slice-read-depth c = omega arith
 
--- src/stages.rt:46:9
 add-s : tie.Need-add-s Inv-loop μ-loop
 add-s c = omega arith
 
--- src/stages.rt:47:12
 is-depth-requires : tie.Need-is-depth-requires Inv-loop μ-loop
 is-depth-requires c κs = tt
 
--- src/stages.rt:48:13
 by-depth-requires : tie.Need-by-depth-requires Inv-loop μ-loop
 by-depth-requires c κs = let s = c .before .before .before .before .before .before .before .before .before .before .before .before .before .before .before .before .before .before in
     let p = s .pre in
     let l = c .before .before .before .before .before .before .before .before .before .loop in
     ((p .some, p .few, l .inv .1 ∙ p .celled, l .inv .2 ∙ p .orders, l .inv .3 ∙ p .places, l .inv .4 ∙ p .firsts, l .inv .5 ∙ p .marked), (p .surfaced, omega (arith, p .begun, c .before .before .before .before .before .before .before .before .loop-test .taken)))
 
--- src/stages.rt:43:5
 loop-less : tie.Need-loop-less Inv-loop μ-loop
 loop-less c = omega (arith, c .before .before .before .before .before .before .before .before .before .before .before .before .before .before .before .before .before .before .loop-test .taken)
 
--- src/stages.rt:43:5
 loop-again : tie.Need-loop-again Inv-loop μ-loop
 unfolding deepened
 loop-again c = let s = c .before .before .before .before .before .before .before .before .before .before .before .before .before .before .before .before .before .before .before .before .before .before .before .before .before .before .before .before in
@@ -87,11 +70,9 @@ loop-again c = let s = c .before .before .before .before .before .before .before
       one ∙ ap (deepened q (now (a .middles)) (l .s)) (l .inv .6) ∙ deepened-more q (now (a .middles)) (l .s) (now (a .marks)),
     )
 
--- src/stages.rt:43:5
 loop-less-2 : tie.Need-loop-less-2 Inv-loop μ-loop
 loop-less-2 c = omega (arith, c .before .before .before .loop-test .taken)
 
--- src/stages.rt:43:5
 loop-again-2 : tie.Need-loop-again-2 Inv-loop μ-loop
 unfolding deepened
 loop-again-2 c = let s = c .before .before .before .before .before .before .before .before .before .before .before .before .before in
@@ -108,27 +89,21 @@ loop-again-2 c = let s = c .before .before .before .before .before .before .befo
       one ∙ ap (deepened q (now (a .middles)) (l .s)) (l .inv .6) ∙ deepened-more q (now (a .middles)) (l .s) (now (a .marks)),
     )
 
--- src/stages.rt:24:1
 same-length : tie.Need-same-length Inv-loop μ-loop
 same-length c = c .before .loop .inv .1
 
--- src/stages.rt:24:1
 same-length-2 : tie.Need-same-length-2 Inv-loop μ-loop
 same-length-2 c = c .before .loop .inv .2
 
--- src/stages.rt:24:1
 same-length-3 : tie.Need-same-length-3 Inv-loop μ-loop
 same-length-3 c = c .before .loop .inv .3
 
--- src/stages.rt:24:1
 same-length-4 : tie.Need-same-length-4 Inv-loop μ-loop
 same-length-4 c = c .before .loop .inv .4
 
--- src/stages.rt:24:1
 same-length-5 : tie.Need-same-length-5 Inv-loop μ-loop
 same-length-5 c = c .before .loop .inv .5
 
--- src/stages.rt:24:1
 returns : tie.Need-returns Inv-loop μ-loop
 returns c = let a = c .before .before .before .before .before .before .before .before .before .before .args in
     c .before .loop .inv .6 ∙ ap (λ (k : ℕ). deepenedTo (sets-of (now (a .nodes)) (now (a .tris)) (now (a .surfaces)) (now (a .starts)) (now (a .kept)) (now (a .depths))) (now (a .middles)) k (now (a .marks))) (le-antisymm (c .before .loop .inv .0) (c .loop-test .left))

@@ -1,26 +1,15 @@
-use mathlib.Core.Path.{_≡_, refl, sym, ap, _∙_}
-use mathlib.Core.Bool.{Bool, true, false, not, _||_, _&&_}
-use mathlib.Core.List.{List, [], _∷_, _++_}
-use Prim.Native.Nat.{ℕ, _+_, _-_, _≤_, _<_}
+-- `passive::stages::mark` meets its contract: by nodes, then by depths of the middles; with no elements the first is all. Assumes nothing.
+use mathlib.Core.Path.{_≡_, sym, ap, _∙_}
+use mathlib.Core.Bool.{Bool}
+use mathlib.Core.List.{List, []}
+use Prim.Native.Nat.{ℕ, _+_}
 use native.Mathlib.Omega.{arith}
-use native.Mathlib.Nat.{le-antisymm}
-use lib.ListN.{length, getD, set, drop, length-set}
-use lib.Seq.{length-take-le, length-front, drop-at}
-use lib.Dec.{eqb, leb, ltb}
-use lib.Ieee.{Float, nan, le, lt}
+use lib.ListN.{length, getD}
 use denote.Ref.{now}
-use Rattle.lists.specs.Lists.{tabulate, overwrite, foldTo, anyTo, choose}
-use Rattle.lists.proofs.Laws.{overwrite-none, overwrite-more, any-none, any-step, choose-true, choose-false}
-use Rattle.mesh.specs.Mesh.{point, stored, million64, centroidOf, nodeOutside, nodesOutside}
-use Rattle.nodes.specs.Nodes.{inSet, byNodes}
-use Rattle.nodes.proofs.Adds.{overwrite-all}
-use Rattle.depth.specs.Depth.{isDepth, cellSize}
-use Rattle.depth.specs.Steps.{reachedBy}
-use Rattle.passive.specs.Passive.{Problem, Lent, setsIn, passiveAt, tooMany, namesNone, anyNamesNone, thousandth64, depthOutside, depthsOutside, tooShort, refusalOf, Worked, Marked}
-use Rattle.passive.specs.Steps.{deepened, deepenedTo, Sized, Fitting, Roomy, Past}
-use Rattle.passive.proofs.Solid.{deepened-none, deepened-more, solid, solid-none, solid-front, sets-only}
-use Rattle.passive.proofs.Fits.{leb-ltb, refusal-is, roomy, refused, accepted}
-use borrow.Author.Needs.{needs}
+use Rattle.lists.specs.Lists.{tabulate}
+use Rattle.nodes.specs.Nodes.{byNodes}
+use Rattle.passive.specs.Passive.{Problem}
+use Rattle.passive.proofs.Solid.{solid, solid-none, sets-only}
 use Rattle.passive.proofs.stages.mark.Statement.{statement}
 use Rattle.passive.proofs.stages.mark.Tie as tie
 use Rattle.passive.proofs.stages.mark.Reads as reads
@@ -39,29 +28,23 @@ by-node : (s : tie.Start) (w : List Bool) → let a = s .args in
 by-node s w e = let a = s .args in
     e ∙ ap (λ (k : ℕ). tabulate (λ i. byNodes (now (a .tris)) (now (a .surfaces)) (now (a .starts)) (now (a .kept)) (now (a .held)) (now (a .loaded)) (length (now (a .depths))) k (getD (now (a .tets)) i [])) (length (now (a .tets)))) (s .pre .keeps)
 
--- src/stages.rt:88:5
 by-nodes-requires : tie.Need-by-nodes-requires
 by-nodes-requires c κs = let s = c .before .before .before .before .before .before .before .before .before .before .before .before .before in (s .pre .surfaced, s .pre .begun, s .pre .marked)
 
--- src/stages.rt:101:9
 same-length : tie.Need-same-length
 same-length c = c .before .before .before .before .before .by-nodes .kept .1 .1 .1 .1 .1 .1 .1 .1 .1 .0
 
--- src/stages.rt:101:9
 same-length-2 : tie.Need-same-length-2
 same-length-2 c = c .before .before .before .before .before .by-nodes .kept .1 .1 .1 .1 .1 .1 .1 .1 .0
 
--- src/stages.rt:101:9
 returns : tie.Need-returns
 returns c = let s = c .before .before .before .before .before .before .before .before .before .before .before .before .before .before .before .before .before .before .before in
     let w = c .before .before .before .before .before .by-nodes .last .1 .1 .1 .1 .1 .1 .1 .1 .1 .0 in
     solid-none (problem s) w (omega (arith, c .if1 .taken)) (by-node s w (c .before .before .before .before .before .by-nodes .ensures))
 
--- src/stages.rt:103:5
 middles-of-requires : tie.Need-middles-of-requires
 middles-of-requires c κs = c .before .before .before .before .before .before .before .before .before .before .before .before .before .before .before .before .before .before .before .before .pre .middled
 
--- src/stages.rt:104:5
 by-depths-requires : tie.Need-by-depths-requires
 by-depths-requires c κs = let s = c .before .before .before .before .before .before .before .before .before .before .before .before .before .before .before .before .before .before .before .before .before .before .before .before .before .before .before .before in
     let p = s .pre in
@@ -78,35 +61,27 @@ by-depths-requires c κs = let s = c .before .before .before .before .before .be
       firsts = p .firsts ∙ (λ i. sym n i + 1);
     }
 
--- src/stages.rt:67:1
 same-length-3 : tie.Need-same-length-3
 same-length-3 c = c .before .before .before .before .before .before .before .before .before .by-depths .kept .1 .1 .1 .1 .1 .1 .1 .1 .1 .1 .1 .0 ∙ c .before .before .before .before .before .before .before .before .before .before .before .before .before .before .before .before .before .before .before .before .before .before .before .before .by-nodes .kept .1 .1 .1 .1 .1 .1 .1 .1 .1 .0
 
--- src/stages.rt:67:1
 same-length-4 : tie.Need-same-length-4
 same-length-4 c = c .before .before .before .before .before .before .before .before .before .before .before .before .before .before .before .before .before .before .before .before .before .before .before .before .by-nodes .kept .1 .1 .1 .1 .1 .1 .1 .1 .0
 
--- src/stages.rt:67:1
 same-length-5 : tie.Need-same-length-5
 same-length-5 c = c .before .before .before .before .before .before .before .before .before .before .before .before .before .before .before .before .before .middles-of .kept .1 .1 .0
 
--- src/stages.rt:67:1
 same-length-6 : tie.Need-same-length-6
 same-length-6 c = c .before .before .before .before .before .before .before .before .before .by-depths .kept .1 .1 .1 .1 .1 .1 .1 .0
 
--- src/stages.rt:67:1
 same-length-7 : tie.Need-same-length-7
 same-length-7 c = c .before .before .before .before .before .before .before .before .before .by-depths .kept .1 .1 .1 .1 .1 .1 .1 .1 .0
 
--- src/stages.rt:67:1
 same-length-8 : tie.Need-same-length-8
 same-length-8 c = c .before .before .before .before .before .before .before .before .before .by-depths .kept .1 .1 .1 .1 .1 .1 .1 .1 .1 .0
 
--- src/stages.rt:67:1
 same-length-9 : tie.Need-same-length-9
 same-length-9 c = c .before .before .before .before .before .before .before .before .before .by-depths .kept .1 .1 .1 .1 .1 .1 .1 .1 .1 .1 .0
 
--- src/stages.rt:67:1
 returns-2 : tie.Need-returns-2
 returns-2 c = let s = c .before .before .before .before .before .before .before .before .before .before .before .before .before .before .before .before .before .before .before .before .before .before .before .before .before .before .before .before .before .before .before .before .before .before .before .before .before .before in
     let w = c .before .before .before .before .before .before .before .before .before .before .before .before .before .before .before .before .before .before .before .before .before .before .before .before .by-nodes .last .1 .1 .1 .1 .1 .1 .1 .1 .1 .0 in

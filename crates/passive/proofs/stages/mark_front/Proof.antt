@@ -1,25 +1,11 @@
-use mathlib.Core.Path.{_≡_, refl, sym, ap, _∙_}
-use mathlib.Core.Bool.{Bool, true, false, not, _||_, _&&_}
-use mathlib.Core.List.{List, [], _∷_, _++_}
-use Prim.Native.Nat.{ℕ, _+_, _-_, _≤_, _<_}
-use native.Mathlib.Omega.{arith}
-use native.Mathlib.Nat.{le-antisymm}
-use lib.ListN.{length, getD, set, drop, length-set}
+-- `passive::stages::mark_front` meets its contract: the front of each list is lent, so the places past it stay. Assumes nothing.
+use mathlib.Core.Path.{sym, _∙_}
+use Prim.Native.Nat.{_+_}
+use lib.ListN.{length, drop}
 use lib.Seq.{length-take-le, length-front, drop-at}
-use lib.Dec.{eqb, leb, ltb}
-use lib.Ieee.{Float, nan, le, lt}
 use denote.Ref.{now}
-use Rattle.lists.specs.Lists.{tabulate, overwrite, foldTo, anyTo, choose}
-use Rattle.lists.proofs.Laws.{overwrite-none, overwrite-more, any-none, any-step, choose-true, choose-false}
-use Rattle.mesh.specs.Mesh.{point, stored, million64, centroidOf, nodeOutside, nodesOutside}
-use Rattle.nodes.specs.Nodes.{inSet, byNodes}
-use Rattle.nodes.proofs.Adds.{overwrite-all}
-use Rattle.depth.specs.Depth.{isDepth, cellSize}
-use Rattle.depth.specs.Steps.{reachedBy}
-use Rattle.passive.specs.Passive.{Problem, Lent, setsIn, passiveAt, tooMany, namesNone, anyNamesNone, thousandth64, depthOutside, depthsOutside, tooShort, refusalOf, Worked, Marked}
-use Rattle.passive.specs.Steps.{deepened, deepenedTo, Sized, Fitting, Roomy, Past}
-use Rattle.passive.proofs.Solid.{deepened-none, deepened-more, solid, solid-none, solid-front, sets-only}
-use Rattle.passive.proofs.Fits.{leb-ltb, refusal-is, roomy, refused, accepted}
+use Rattle.passive.specs.Passive.{Problem}
+use Rattle.passive.proofs.Solid.{solid-front}
 use borrow.Author.Needs.{needs}
 use Rattle.passive.proofs.stages.mark_front.Statement.{statement}
 use Rattle.passive.proofs.stages.mark_front.Tie as tie
@@ -30,67 +16,51 @@ use Rattle.passive.proofs.stages.mark.Reads as mark-reads
 abbrev problem : (s : tie.Start) → Problem
 problem s = let a = s .args in record { nodes = now (a .nodes); tets = now (a .tets); tris = now (a .tris); surfaces = now (a .surfaces); held = now (a .held); loaded = now (a .loaded); starts = now (a .starts); kept = now (a .kept); depths = now (a .depths) }
 
--- src/stages.rt:144:13
 add-m : tie.Need-add-m
 add-m c = search needs
 
--- src/stages.rt:156:9
 slice-relend-prefix-mark : tie.Need-slice-relend-prefix-mark
 slice-relend-prefix-mark c = search needs
 
--- src/stages.rt:156:9
 slice-aggregate-mark : tie.Need-slice-aggregate-mark
 slice-aggregate-mark c = let s = c .before .before .before .before .before .before .before .before .before .before .before .before in let a = s .args in sym (length-take-le (length (now (a .tets))) (now (a .marks)) (s .pre .marked))
 
--- src/stages.rt:157:9
 slice-relend-prefix-mark-2 : tie.Need-slice-relend-prefix-mark-2
 slice-relend-prefix-mark-2 c = search needs
 
--- src/stages.rt:157:9
 slice-aggregate-mark-2 : tie.Need-slice-aggregate-mark-2
 slice-aggregate-mark-2 c = let s = c .before .before .before .before .before .before .before .before .before .before .before .before .before in let a = s .args in sym (length-take-le (length (now (a .nodes))) (now (a .keep)) (s .pre .keeps))
 
--- src/stages.rt:158:9
 slice-relend-prefix-mark-3 : tie.Need-slice-relend-prefix-mark-3
 slice-relend-prefix-mark-3 c = search needs
 
--- src/stages.rt:158:9
 slice-aggregate-mark-3 : tie.Need-slice-aggregate-mark-3
 slice-aggregate-mark-3 c = let s = c .before .before .before .before .before .before .before .before .before .before .before .before .before .before in let a = s .args in sym (length-take-le (length (now (a .tets))) (now (a .middles)) (s .pre .middled))
 
--- src/stages.rt:159:9
 slice-relend-prefix-mark-4 : tie.Need-slice-relend-prefix-mark-4
 slice-relend-prefix-mark-4 c = search needs
 
--- src/stages.rt:159:9
 slice-aggregate-mark-4 : tie.Need-slice-aggregate-mark-4
 slice-aggregate-mark-4 c = let s = c .before .before .before .before .before .before .before .before .before .before .before .before .before .before .before in let a = s .args in sym (length-take-le (length (now (a .tets))) (now (a .cells)) (s .pre .celled))
 
--- src/stages.rt:160:9
 slice-relend-prefix-mark-5 : tie.Need-slice-relend-prefix-mark-5
 slice-relend-prefix-mark-5 c = search needs
 
--- src/stages.rt:160:9
 slice-aggregate-mark-5 : tie.Need-slice-aggregate-mark-5
 slice-aggregate-mark-5 c = let s = c .before .before .before .before .before .before .before .before .before .before .before .before .before .before .before .before in let a = s .args in sym (length-take-le (length (now (a .tets))) (now (a .order)) (s .pre .orders))
 
--- src/stages.rt:161:9
 slice-relend-prefix-mark-6 : tie.Need-slice-relend-prefix-mark-6
 slice-relend-prefix-mark-6 c = search needs
 
--- src/stages.rt:161:9
 slice-aggregate-mark-6 : tie.Need-slice-aggregate-mark-6
 slice-aggregate-mark-6 c = let s = c .before .before .before .before .before .before .before .before .before .before .before .before .before .before .before .before .before in let a = s .args in sym (length-take-le (length (now (a .tets))) (now (a .place)) (s .pre .places))
 
--- src/stages.rt:162:9
 slice-relend-prefix-mark-7 : tie.Need-slice-relend-prefix-mark-7
 slice-relend-prefix-mark-7 c = search needs
 
--- src/stages.rt:162:9
 slice-aggregate-mark-7 : tie.Need-slice-aggregate-mark-7
 slice-aggregate-mark-7 c = let s = c .before .before .before .before .before .before .before .before .before .before .before .before .before .before .before .before .before .before in let a = s .args in sym (length-take-le (length (now (a .tets)) + 1) (now (a .first)) (s .pre .firsts))
 
--- src/stages.rt:146:5
 mark-requires : tie.Need-mark-requires
 mark-requires c κs = let s = c .before .before .before .before .before .before .before .before .before .before .before .before .before .before .before .before .before .before in
     let a = s .args in
@@ -108,49 +78,41 @@ mark-requires c κs = let s = c .before .before .before .before .before .before 
       firsts = length-take-le (length (now (a .tets)) + 1) (now (a .first)) (p .firsts);
     }
 
--- src/stages.rt:121:1
 same-length : tie.Need-same-length
 same-length c = let a = c .before .before .before .before .before .before .before .before .before .before .before .before .before .before .before .before .before .before .before .before .before .before .before .before .before .before .before .before .before .before .before .args in
     let t = c .before .before .before .before .before .before .before .before .before .before .before .before .mark in
     length-front (now (a .marks)) (t .last .1 .1 .1 .1 .1 .1 .1 .1 .1 .0) (length (now (a .tets))) (t .kept .1 .1 .1 .1 .1 .1 .1 .1 .1 .0)
 
--- src/stages.rt:121:1
 same-length-2 : tie.Need-same-length-2
 same-length-2 c = let a = c .before .before .before .before .before .before .before .before .before .before .before .before .before .before .before .before .before .before .before .before .before .before .before .before .before .before .before .before .before .before .before .args in
     let t = c .before .before .before .before .before .before .before .before .before .before .before .before .mark in
     length-front (now (a .keep)) (t .last .1 .1 .1 .1 .1 .1 .1 .1 .1 .1 .0) (length (now (a .nodes))) (t .kept .1 .1 .1 .1 .1 .1 .1 .1 .1 .1 .0)
 
--- src/stages.rt:121:1
 same-length-3 : tie.Need-same-length-3
 same-length-3 c = let a = c .before .before .before .before .before .before .before .before .before .before .before .before .before .before .before .before .before .before .before .before .before .before .before .before .before .before .before .before .before .before .before .args in
     let t = c .before .before .before .before .before .before .before .before .before .before .before .before .mark in
     length-front (now (a .middles)) (t .last .1 .1 .1 .1 .1 .1 .1 .1 .1 .1 .1 .0) (length (now (a .tets))) (t .kept .1 .1 .1 .1 .1 .1 .1 .1 .1 .1 .1 .0)
 
--- src/stages.rt:121:1
 same-length-4 : tie.Need-same-length-4
 same-length-4 c = let a = c .before .before .before .before .before .before .before .before .before .before .before .before .before .before .before .before .before .before .before .before .before .before .before .before .before .before .before .before .before .before .before .args in
     let t = c .before .before .before .before .before .before .before .before .before .before .before .before .mark in
     length-front (now (a .cells)) (t .last .1 .1 .1 .1 .1 .1 .1 .1 .1 .1 .1 .1 .0) (length (now (a .tets))) (t .kept .1 .1 .1 .1 .1 .1 .1 .1 .1 .1 .1 .1 .0)
 
--- src/stages.rt:121:1
 same-length-5 : tie.Need-same-length-5
 same-length-5 c = let a = c .before .before .before .before .before .before .before .before .before .before .before .before .before .before .before .before .before .before .before .before .before .before .before .before .before .before .before .before .before .before .before .args in
     let t = c .before .before .before .before .before .before .before .before .before .before .before .before .mark in
     length-front (now (a .order)) (t .last .1 .1 .1 .1 .1 .1 .1 .1 .1 .1 .1 .1 .1 .0) (length (now (a .tets))) (t .kept .1 .1 .1 .1 .1 .1 .1 .1 .1 .1 .1 .1 .1 .0)
 
--- src/stages.rt:121:1
 same-length-6 : tie.Need-same-length-6
 same-length-6 c = let a = c .before .before .before .before .before .before .before .before .before .before .before .before .before .before .before .before .before .before .before .before .before .before .before .before .before .before .before .before .before .before .before .args in
     let t = c .before .before .before .before .before .before .before .before .before .before .before .before .mark in
     length-front (now (a .place)) (t .last .1 .1 .1 .1 .1 .1 .1 .1 .1 .1 .1 .1 .1 .1 .0) (length (now (a .tets))) (t .kept .1 .1 .1 .1 .1 .1 .1 .1 .1 .1 .1 .1 .1 .1 .0)
 
--- src/stages.rt:121:1
 same-length-7 : tie.Need-same-length-7
 same-length-7 c = let a = c .before .before .before .before .before .before .before .before .before .before .before .before .before .before .before .before .before .before .before .before .before .before .before .before .before .before .before .before .before .before .before .args in
     let t = c .before .before .before .before .before .before .before .before .before .before .before .before .mark in
     length-front (now (a .first)) (t .last .1 .1 .1 .1 .1 .1 .1 .1 .1 .1 .1 .1 .1 .1 .1 .0) (length (now (a .tets)) + 1) (t .kept .1 .1 .1 .1 .1 .1 .1 .1 .1 .1 .1 .1 .1 .1 .1 .0)
 
--- src/stages.rt:121:1
 returns : tie.Need-returns
 returns c = let s = c .before .before .before .before .before .before .before .before .before .before .before .before .before .before .before .before .before .before .before .before .before .before .before .before .before .before .before .before .before .before .before in
     let a = s .args in

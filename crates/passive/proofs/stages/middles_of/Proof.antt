@@ -1,26 +1,15 @@
-use borrow.Author.Needs.{needs}
+-- `passive::stages::middles_of` meets its contract. The invariant: the middles of the elements passed are written. Assumes nothing.
 use mathlib.Core.Path.{_≡_, refl, sym, ap, _∙_}
-use mathlib.Core.Bool.{Bool, true, false, not, _||_, _&&_}
-use mathlib.Core.List.{List, [], _∷_, _++_}
-use Prim.Native.Nat.{ℕ, _+_, _-_, _≤_, _<_}
+use mathlib.Core.List.{[]}
+use Prim.Native.Nat.{ℕ, _-_, _≤_}
 use native.Mathlib.Omega.{arith}
 use native.Mathlib.Nat.{le-antisymm}
-use lib.ListN.{length, getD, set, drop, length-set}
-use lib.Seq.{length-take-le, drop-at}
-use lib.Dec.{eqb, leb, ltb}
-use lib.Ieee.{Float, nan, le, lt}
+use lib.ListN.{length, getD, set, length-set}
 use denote.Ref.{now}
-use Rattle.lists.specs.Lists.{tabulate, overwrite, foldTo, anyTo, choose}
-use Rattle.lists.proofs.Laws.{overwrite-none, overwrite-more, any-none, any-step, choose-true, choose-false}
-use Rattle.mesh.specs.Mesh.{point, stored, million64, centroidOf, nodeOutside, nodesOutside}
-use Rattle.nodes.specs.Nodes.{inSet}
+use Rattle.lists.specs.Lists.{overwrite}
+use Rattle.lists.proofs.Laws.{overwrite-none, overwrite-more}
+use Rattle.mesh.specs.Mesh.{stored, centroidOf}
 use Rattle.nodes.proofs.Adds.{overwrite-all}
-use Rattle.depth.specs.Depth.{isDepth, cellSize}
-use Rattle.depth.specs.Steps.{reachedBy}
-use Rattle.passive.specs.Passive.{Problem, Lent, setsIn, passiveAt, tooMany, namesNone, anyNamesNone, thousandth64, depthOutside, depthsOutside, tooShort, refusalOf, Worked, Marked}
-use Rattle.passive.specs.Steps.{deepened, deepenedTo, Sized, Fitting, Roomy, Past}
-use Rattle.passive.proofs.Solid.{deepened-none, deepened-more, solid, solid-none, solid-front}
-use Rattle.passive.proofs.Fits.{leb-ltb}
 use Rattle.passive.proofs.stages.middles_of.Statement.{statement}
 use Rattle.passive.proofs.stages.middles_of.Tie as tie
 use Rattle.passive.proofs.stages.middles_of.Reads as reads
@@ -33,48 +22,37 @@ Inv-loop nodes tets middles₀ n e₀ middles e = (e ≤ n) × (length middles �
 abbrev μ-loop : tie.MeasureT-loop
 μ-loop nodes tets middles₀ n e₀ middles e = n - e
 
--- src/stages.rt:16:5
 loop-holds : tie.Need-loop-holds Inv-loop μ-loop
 loop-holds c = (omega arith, refl, sym (overwrite-none _ _))
 
--- src/stages.rt:17:39
 mul-centroid : tie.Need-mul-centroid Inv-loop μ-loop
 mul-centroid c = omega arith
 
--- src/stages.rt:17:39
 shared-slice-copy-out-centroid : tie.Need-shared-slice-copy-out-centroid Inv-loop μ-loop
 shared-slice-copy-out-centroid c = omega arith
 
--- src/stages.rt:17:13
 centroid-requires : tie.Need-centroid-requires Inv-loop μ-loop
 centroid-requires c κs = tt
 
--- src/stages.rt:18:9
 mul-t8 : tie.Need-mul-t8 Inv-loop μ-loop
 mul-t8 c = omega arith
 
--- src/stages.rt:18:9
 slice-set-from-middles : tie.Need-slice-set-from-middles Inv-loop μ-loop
 slice-set-from-middles c = omega arith
 
--- src/stages.rt:19:9
 add-e : tie.Need-add-e Inv-loop μ-loop
 add-e c = omega arith
 
--- src/stages.rt:16:5
 loop-less : tie.Need-loop-less Inv-loop μ-loop
 loop-less c = omega arith
 
--- src/stages.rt:16:5
 loop-again : tie.Need-loop-again Inv-loop μ-loop
 loop-again c = let l = c .before .before .before .loop in
     (omega arith, simp length-set (l .inv .1), ap (set (l .middles) (l .e)) (ap stored (c .centroid .ensures)) ∙ rw (l .inv .2) (overwrite-more _ _ _ (omega arith)))
 
--- src/stages.rt:10:1
 same-length : tie.Need-same-length Inv-loop μ-loop
 same-length c = c .before .loop .inv .1
 
--- src/stages.rt:10:1
 returns : tie.Need-returns Inv-loop μ-loop
 returns c = let a = c .before .before .args in
     let l = c .before .loop in
