@@ -1,0 +1,18 @@
+-- `depth::cell_number` meets its contract as it stands. Assumes nothing.
+use Rattle.depth.specs.Depth.{cellNumber}
+use borrow.Author.Needs.{needs}
+use Rattle.depth.proofs.cell_number.Statement.{statement}
+use Rattle.depth.proofs.cell_number.Tie as tie
+use Rattle.depth.proofs.cell_number.Reads as reads
+use Rattle.depth.proofs.cell_number.Lts as lts
+use Rattle.ieee.proofs.whole.floor_at.Reads as floor-at-reads
+
+floor-at-requires : tie.Need-floor-at-requires
+floor-at-requires c κs = search needs
+
+returns : tie.Need-returns
+unfolding cellNumber
+returns c = c .floor-at .ensures
+
+pub cell-number-spec : {M : Type 1} → statement M
+cell-number-spec = tie.close (tie.spec floor-at-requires returns)

@@ -1,0 +1,22 @@
+-- `depth::is_depth` meets its contract: both tests. Assumes nothing.
+use mathlib.Core.Path.{ap}
+use mathlib.Core.Bool.{Bool, _&&_}
+use lib.Ieee.{lt}
+use Rattle.lists.specs.Lists.{zero64}
+use Rattle.depth.specs.Depth.{isDepth}
+use borrow.Author.Needs.{needs}
+use Rattle.depth.proofs.is_depth.Statement.{statement}
+use Rattle.depth.proofs.is_depth.Tie as tie
+use Rattle.depth.proofs.is_depth.Reads as reads
+use Rattle.depth.proofs.is_depth.Lts as lts
+use Rattle.ieee.proofs.is_finite.Reads as is-finite-reads
+
+is-finite-requires : tie.Need-is-finite-requires
+is-finite-requires c κs = search needs
+
+returns : tie.Need-returns
+unfolding isDepth
+returns c = ap (λ (t : Bool). t && lt zero64 (c .before .args .depth)) (c .is-finite .ensures)
+
+pub is-depth-spec : {M : Type 1} → statement M
+is-depth-spec = tie.close (tie.spec is-finite-requires returns)

@@ -1,0 +1,28 @@
+-- `depth::walk::is_near` meets its contract: what the distance promises, compared. Assumes nothing.
+use mathlib.Core.Path.{ap, _∙_}
+use lib.Ieee.{Float, le}
+use Rattle.geom.specs.declared.Vec3.{Vec3}
+use Rattle.mesh.specs.Mesh.{point}
+use Rattle.faces.specs.Triangle.{dist2ToTriangle}
+use Rattle.depth.specs.Depth.{atMost}
+use borrow.Author.Needs.{needs}
+use Rattle.depth.proofs.walk.is_near.Statement.{statement}
+use Rattle.depth.proofs.walk.is_near.Tie as tie
+use Rattle.depth.proofs.walk.is_near.Reads as reads
+use Rattle.depth.proofs.walk.is_near.Lts as lts
+use Rattle.faces.proofs.dist2_to_triangle.Reads as dist2-to-triangle-reads
+use Rattle.mesh.proofs.point.Reads as point-reads
+
+point-requires : tie.Need-point-requires
+point-requires c κs = search needs
+
+dist2-to-triangle-requires : tie.Need-dist2-to-triangle-requires
+dist2-to-triangle-requires c κs = search needs
+
+returns : tie.Need-returns
+unfolding atMost
+returns c = let a = c .before .before .args in
+    ap (λ (v : Float). le v (a .limit)) (c .dist2-to-triangle .ensures ∙ ap (λ (q : Vec3). dist2ToTriangle q (a .t .a) (a .t .b) (a .t .c)) (c .before .point .ensures))
+
+pub is-near-spec : {M : Type 1} → statement M
+is-near-spec = tie.close (tie.spec point-requires dist2-to-triangle-requires returns)

@@ -1,0 +1,23 @@
+-- `nodes::flag` meets its contract: a node that is not there changes nothing. Assumes nothing.
+use mathlib.Core.Path.{sym}
+use lib.Seq.{set-out}
+use borrow.Author.Needs.{needs}
+use Rattle.nodes.proofs.flag.Statement.{statement}
+use Rattle.nodes.proofs.flag.Tie as tie
+use Rattle.nodes.proofs.flag.Reads as reads
+use Rattle.nodes.proofs.flag.Lts as lts
+
+slice-write-keep : tie.Need-slice-write-keep
+slice-write-keep c = search needs
+
+same-length : tie.Need-same-length
+same-length c = search needs
+
+returns : tie.Need-returns
+returns c = search needs
+
+returns-2 : tie.Need-returns-2
+returns-2 c = sym (set-out _ _ _ (c .if1 .left))
+
+pub flag-spec : {M : Type 1} → statement M
+flag-spec = tie.close (tie.spec slice-write-keep same-length returns returns-2)
