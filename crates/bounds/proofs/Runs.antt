@@ -1,5 +1,5 @@
 -- The bounds of every update of a run: by induction on the answers. Assumes nothing.
-use mathlib.Core.Path.{_≡_, refl, sym, subst}
+use mathlib.Core.Path.{_≡_, refl, sym, _∙_, subst}
 use mathlib.Core.Bool.{Bool, true, false}
 use mathlib.Core.List.{List, [], _∷_}
 use Prim.Native.Nat.{ℕ, zero, suc, _<_}
@@ -7,7 +7,7 @@ use native.Mathlib.Omega.{arith}
 use lib.ListN.{length, getD}
 use lib.Ieee.{binary64, div, le, fits, ofBits}
 use Rattle.lists.specs.Lists.{choose}
-use Rattle.lists.proofs.Laws.{length-tabulate, getD-tabulate}
+use Rattle.lists.proofs.Laws.{length-tabulate, getD-tabulate, choose-true, choose-false}
 use Rattle.ieee.specs.Basic.{one64}
 use Rattle.ieee.specs.Sqrt.{sqrtOf}
 use Rattle.oc.specs.Start.{startDensity, startDesign}
@@ -39,6 +39,17 @@ move-by true s16 = record { fit = tt; least = tt; most = tt }
 
 pub move-at : (c : Case) (b : Steep) → Move (moveAt c b)
 move-at c b = move-by (c .sharpen) b
+
+-- "a design value moves by at most 0.2, or 0.05 at full sharpening"
+pub move-unsharpened : (c : Case) (b : Steep) → c .sharpen ≡ false → moveAt c b ≡ ofBits binary64 0x3fc9_9999_9999_999a
+move-unsharpened c b e = choose-false (c .sharpen) _ _ e
+
+full : div binary64 (ofBits binary64 0x3fc9_9999_9999_999a) (sqrtOf binary64 (sharpness s16)) ≡ ofBits binary64 0x3fa9_9999_9999_999a
+unfolding div sqrtOf ofBits
+full = refl
+
+pub move-full : (c : Case) → c .sharpen ≡ true → moveAt c s16 ≡ ofBits binary64 0x3fa9_9999_9999_999a
+move-full c e = choose-true (c .sharpen) _ _ e ∙ full
 
 -- ---- an answer
 module _ (r : Run) (a : Answer) (all : AllRange (r .design)) where
