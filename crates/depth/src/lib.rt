@@ -1,7 +1,7 @@
 // Marks by depth (region.rs, `passive`): the elements whose middle is near a triangle of a kept set. The middles are filed by cells, and about each triangle
 // the cells of its box and those next to them are walked. Internal: lists are as long as needed.
 pub mod reach;
-pub mod walk;
+mod walk;
 
 ghost use mathlib.Core.Path.{_≡_};
 ghost use mathlib.Core.List.{[]};
@@ -39,7 +39,7 @@ fn node(nodes: &[[f64; 3]], n: u32) -> Vec3
     Vec3::new(0.0, 0.0, 0.0)
 }
 
-pub fn corners(nodes: &[[f64; 3]], tri: [u32; 6]) -> Triangle
+fn corners(nodes: &[[f64; 3]], tri: [u32; 6]) -> Triangle
     ensures { λ r. ⌜ r ≡ Depth.cornersOf (now (nodes .entry)) tri ⌝ }
 {
     Triangle {
@@ -86,7 +86,7 @@ fn longest(
 }
 
 // The size of set s' cells.
-pub fn cell_size(
+fn cell_size(
     nodes: &[[f64; 3]],
     tris: &[[u32; 6]],
     surfaces: &[u32],
@@ -101,14 +101,14 @@ pub fn cell_size(
     ieee::max(depth, longest(nodes, tris, surfaces, starts, kept, s))
 }
 
-pub fn cell_number(v: f64, size: f64) -> u64
+fn cell_number(v: f64, size: f64) -> u64
     ensures { λ r. ⌜ r ≡ Depth.cellNumber v size ⌝ }
 {
     ieee::whole::floor_at(v / size)
 }
 
 // The cells of the middles.
-pub fn cells_of(middles: &[[f64; 3]], size: f64, cells: &mut [[u64; 3]])
+fn cells_of(middles: &[[f64; 3]], size: f64, cells: &mut [[u64; 3]])
     requires { ⌜ length (now cells) ≡ length (now middles) ⌝ }
     ensures { λ _. ⌜ now (cells .exit) ≡ tabulate (λ i. cellAbout size (point (getD (now (middles .entry)) i []))) (length (now (middles .entry))) ⌝ }
 {

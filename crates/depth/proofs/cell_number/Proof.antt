@@ -3,9 +3,6 @@ use Rattle.depth.specs.Depth.{cellNumber}
 use borrow.Author.Needs.{needs}
 use Rattle.depth.proofs.cell_number.Statement.{statement}
 use Rattle.depth.proofs.cell_number.Tie as tie
-use Rattle.depth.proofs.cell_number.Reads as reads
-use Rattle.depth.proofs.cell_number.Lts as lts
-use Rattle.ieee.proofs.whole.floor_at.Reads as floor-at-reads
 
 floor-at-requires : tie.Need-floor-at-requires
 floor-at-requires c κs = search needs

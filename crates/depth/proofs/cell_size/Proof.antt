@@ -4,10 +4,6 @@ use Rattle.ieee.specs.Basic.{maxOf}
 use Rattle.depth.specs.Depth.{cellSize}
 use Rattle.depth.proofs.cell_size.Statement.{statement}
 use Rattle.depth.proofs.cell_size.Tie as tie
-use Rattle.depth.proofs.cell_size.Reads as reads
-use Rattle.depth.proofs.cell_size.Lts as lts
-use Rattle.depth.proofs.longest.Reads as longest-reads
-use Rattle.ieee.proofs.max.Reads as max-reads
 
 longest-requires : tie.Need-longest-requires
 longest-requires c κs = c .before .before .before .pre

@@ -14,9 +14,6 @@ use Rattle.nodes.proofs.Adds.{overwrite-all}
 use Rattle.depth.specs.Steps.{cellAbout}
 use Rattle.depth.proofs.cells_of.Statement.{statement}
 use Rattle.depth.proofs.cells_of.Tie as tie
-use Rattle.depth.proofs.cells_of.Reads as reads
-use Rattle.depth.proofs.cells_of.Lts as lts
-use Rattle.depth.proofs.cell_number.Reads as cell-number-reads
 
 abbrev Inv-loop : tie.InvT-loop
 Inv-loop middles size cells₀ n i₀ cells i = (i ≤ n) × (length cells ≡ length cells₀) × (cells ≡ overwrite (λ j. cellAbout size (point (getD middles j []))) i cells₀)

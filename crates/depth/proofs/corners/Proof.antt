@@ -3,9 +3,6 @@ use Rattle.depth.specs.Depth.{cornersOf}
 use borrow.Author.Needs.{needs}
 use Rattle.depth.proofs.corners.Statement.{statement}
 use Rattle.depth.proofs.corners.Tie as tie
-use Rattle.depth.proofs.corners.Reads as reads
-use Rattle.depth.proofs.corners.Lts as lts
-use Rattle.depth.proofs.node.Reads as node-reads
 
 array-read-node : tie.Need-array-read-node
 array-read-node c = search needs

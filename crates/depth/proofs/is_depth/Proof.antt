@@ -7,9 +7,6 @@ use Rattle.depth.specs.Depth.{isDepth}
 use borrow.Author.Needs.{needs}
 use Rattle.depth.proofs.is_depth.Statement.{statement}
 use Rattle.depth.proofs.is_depth.Tie as tie
-use Rattle.depth.proofs.is_depth.Reads as reads
-use Rattle.depth.proofs.is_depth.Lts as lts
-use Rattle.ieee.proofs.is_finite.Reads as is-finite-reads
 
 is-finite-requires : tie.Need-is-finite-requires
 is-finite-requires c κs = search needs

@@ -6,10 +6,6 @@ use Rattle.depth.specs.Depth.{longer}
 use borrow.Author.Needs.{needs}
 use Rattle.depth.proofs.longer.Statement.{statement}
 use Rattle.depth.proofs.longer.Tie as tie
-use Rattle.depth.proofs.longer.Reads as reads
-use Rattle.depth.proofs.longer.Lts as lts
-use Rattle.geom.proofs.Vec3.dist.Reads as dist-reads
-use Rattle.ieee.proofs.max.Reads as max-reads
 
 dist-requires : tie.Need-dist-requires
 dist-requires c κs = search needs

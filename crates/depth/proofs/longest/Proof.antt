@@ -11,11 +11,6 @@ use Rattle.nodes.specs.Nodes.{inSet}
 use Rattle.depth.specs.Depth.{cornersOf, longer, longestSide}
 use Rattle.depth.proofs.longest.Statement.{statement}
 use Rattle.depth.proofs.longest.Tie as tie
-use Rattle.depth.proofs.longest.Reads as reads
-use Rattle.depth.proofs.longest.Lts as lts
-use Rattle.depth.proofs.corners.Reads as corners-reads
-use Rattle.depth.proofs.longer.Reads as longer-reads
-use Rattle.nodes.proofs.in_set.Reads as in-set-reads
 
 abbrev Inv-loop : tie.InvT-loop
 Inv-loop nodes tris surfaces starts kept s n m₀ t₀ m t = (t ≤ n) × (m ≡ foldTo (λ i w. choose (inSet surfaces starts kept s i) (longer (cornersOf nodes (getD tris i [])) w) w) zero64 t)

@@ -8,10 +8,6 @@ use Rattle.mesh.specs.Mesh.{point, stored, origin, nodeAt}
 use borrow.Author.Needs.{needs}
 use Rattle.depth.proofs.node.Statement.{statement}
 use Rattle.depth.proofs.node.Tie as tie
-use Rattle.depth.proofs.node.Reads as reads
-use Rattle.depth.proofs.node.Lts as lts
-use Rattle.geom.proofs.Vec3.new.Reads as new-reads
-use Rattle.mesh.proofs.point.Reads as point-reads
 
 mul-point : tie.Need-mul-point
 mul-point c = search needs

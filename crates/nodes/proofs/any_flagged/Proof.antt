@@ -11,9 +11,6 @@ use Rattle.lists.proofs.Laws.{any-none, any-step}
 use Rattle.nodes.specs.Steps.{anyFlagged}
 use Rattle.nodes.proofs.any_flagged.Statement.{statement}
 use Rattle.nodes.proofs.any_flagged.Tie as tie
-use Rattle.nodes.proofs.any_flagged.Reads as reads
-use Rattle.nodes.proofs.any_flagged.Lts as lts
-use Rattle.nodes.proofs.is_flagged.Reads as is-flagged-reads
 
 abbrev Inv-loop : tie.InvT-loop
 Inv-loop keep tet found₀ k₀ found k = (k ≤ 10) × (found ≡ anyTo (λ j. getD keep (getD tet j 0) false) k)

@@ -7,12 +7,6 @@ use lib.ListN.{length}
 use borrow.Author.Needs.{needs}
 use Rattle.nodes.proofs.by_nodes.Statement.{statement}
 use Rattle.nodes.proofs.by_nodes.Tie as tie
-use Rattle.nodes.proofs.by_nodes.Reads as reads
-use Rattle.nodes.proofs.by_nodes.Lts as lts
-use Rattle.nodes.proofs.clear.Reads as clear-reads
-use Rattle.nodes.proofs.flag_all.Reads as flag-all-reads
-use Rattle.nodes.proofs.flag_sets.Reads as flag-sets-reads
-use Rattle.nodes.proofs.mark.Reads as mark-reads
 
 clear-requires : tie.Need-clear-requires
 clear-requires c κs = tt

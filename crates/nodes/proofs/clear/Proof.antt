@@ -9,8 +9,6 @@ use Rattle.lists.specs.Lists.{overwrite}
 use Rattle.lists.proofs.Laws.{overwrite-none, overwrite-more}
 use Rattle.nodes.proofs.clear.Statement.{statement}
 use Rattle.nodes.proofs.clear.Tie as tie
-use Rattle.nodes.proofs.clear.Reads as reads
-use Rattle.nodes.proofs.clear.Lts as lts
 
 abbrev Inv-loop : tie.InvT-loop
 Inv-loop keep₀ n i₀ keep i = (i ≤ n) × (length keep ≡ length keep₀) × (keep ≡ overwrite (λ _. false) i keep₀)

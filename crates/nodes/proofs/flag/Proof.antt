@@ -4,8 +4,6 @@ use lib.Seq.{set-out}
 use borrow.Author.Needs.{needs}
 use Rattle.nodes.proofs.flag.Statement.{statement}
 use Rattle.nodes.proofs.flag.Tie as tie
-use Rattle.nodes.proofs.flag.Reads as reads
-use Rattle.nodes.proofs.flag.Lts as lts
 
 slice-write-keep : tie.Need-slice-write-keep
 slice-write-keep c = search needs

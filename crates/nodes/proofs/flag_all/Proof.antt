@@ -8,9 +8,6 @@ use Rattle.nodes.specs.Steps.{flagged}
 use Rattle.nodes.proofs.Flags.{flagged-none, flagged-more}
 use Rattle.nodes.proofs.flag_all.Statement.{statement}
 use Rattle.nodes.proofs.flag_all.Tie as tie
-use Rattle.nodes.proofs.flag_all.Reads as reads
-use Rattle.nodes.proofs.flag_all.Lts as lts
-use Rattle.nodes.proofs.flag.Reads as flag-reads
 
 abbrev Inv-loop : tie.InvT-loop
 Inv-loop numbers keep₀ k₀ keep k = (k ≤ length numbers) × (length keep ≡ length keep₀) × (keep ≡ flagged numbers k keep₀)

@@ -11,10 +11,6 @@ use Rattle.nodes.specs.Nodes.{inSet}
 use Rattle.nodes.specs.Steps.{flagged, flaggedSet}
 use Rattle.nodes.proofs.flag_set.Statement.{statement}
 use Rattle.nodes.proofs.flag_set.Tie as tie
-use Rattle.nodes.proofs.flag_set.Reads as reads
-use Rattle.nodes.proofs.flag_set.Lts as lts
-use Rattle.nodes.proofs.flag_triangle.Reads as flag-triangle-reads
-use Rattle.nodes.proofs.in_set.Reads as in-set-reads
 
 abbrev Inv-loop : tie.InvT-loop
 Inv-loop tris surfaces starts kept s keep₀ n t₀ keep t = (t ≤ n) × (length keep ≡ length keep₀) × (keep ≡ foldTo (λ i l. choose (inSet surfaces starts kept s i) (flagged (getD tris i []) 6 l) l) keep₀ t)

@@ -6,12 +6,9 @@ use native.Mathlib.Nat.{le-antisymm}
 use lib.ListN.{length}
 use Rattle.lists.specs.Lists.{foldTo}
 use Rattle.lists.proofs.Laws.{foldTo-none, foldTo-more}
-use Rattle.nodes.specs.Steps.{flagged, flaggedSet, flaggedSets}
+use Rattle.nodes.specs.Steps.{flaggedSet, flaggedSets}
 use Rattle.nodes.proofs.flag_sets.Statement.{statement}
 use Rattle.nodes.proofs.flag_sets.Tie as tie
-use Rattle.nodes.proofs.flag_sets.Reads as reads
-use Rattle.nodes.proofs.flag_sets.Lts as lts
-use Rattle.nodes.proofs.flag_set.Reads as flag-set-reads
 
 abbrev Inv-loop : tie.InvT-loop
 Inv-loop tris surfaces starts kept sets keep₀ s₀ keep s = (s ≤ sets) × (length keep ≡ length keep₀) × (keep ≡ foldTo (λ i l. flaggedSet tris surfaces starts kept i l) keep₀ s)

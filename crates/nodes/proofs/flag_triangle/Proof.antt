@@ -9,9 +9,6 @@ use Rattle.nodes.specs.Steps.{flagged}
 use Rattle.nodes.proofs.Flags.{flagged-none, flagged-more}
 use Rattle.nodes.proofs.flag_triangle.Statement.{statement}
 use Rattle.nodes.proofs.flag_triangle.Tie as tie
-use Rattle.nodes.proofs.flag_triangle.Reads as reads
-use Rattle.nodes.proofs.flag_triangle.Lts as lts
-use Rattle.nodes.proofs.flag.Reads as flag-reads
 
 abbrev Inv-loop : tie.InvT-loop
 Inv-loop keep₀ tri k₀ keep k = (k ≤ 6) × (length keep ≡ length keep₀) × (keep ≡ flagged tri k keep₀)

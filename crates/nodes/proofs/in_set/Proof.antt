@@ -11,9 +11,6 @@ use Rattle.lists.proofs.Laws.{any-none, any-step}
 use Rattle.nodes.specs.Nodes.{ofSet}
 use Rattle.nodes.proofs.in_set.Statement.{statement}
 use Rattle.nodes.proofs.in_set.Tie as tie
-use Rattle.nodes.proofs.in_set.Reads as reads
-use Rattle.nodes.proofs.in_set.Lts as lts
-use Rattle.nodes.proofs.places.Reads as places-reads
 
 abbrev Inv-loop : tie.InvT-loop
 Inv-loop starts kept s surface from end n found₀ j₀ found j = (j ≤ n) × (n ≡ min end (length kept) - from) × (found ≡ anyTo (λ i. eqb (getD kept (from + i) 0) surface) j)

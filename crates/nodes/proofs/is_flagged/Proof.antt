@@ -5,8 +5,6 @@ use lib.ListN.{List·getD-eq-default}
 use borrow.Author.Needs.{needs}
 use Rattle.nodes.proofs.is_flagged.Statement.{statement}
 use Rattle.nodes.proofs.is_flagged.Tie as tie
-use Rattle.nodes.proofs.is_flagged.Reads as reads
-use Rattle.nodes.proofs.is_flagged.Lts as lts
 
 shared-slice-read-result : tie.Need-shared-slice-read-result
 shared-slice-read-result c = search needs

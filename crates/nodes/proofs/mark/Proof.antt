@@ -10,9 +10,6 @@ use Rattle.lists.proofs.Laws.{overwrite-none, overwrite-more}
 use Rattle.nodes.specs.Steps.{anyFlagged}
 use Rattle.nodes.proofs.mark.Statement.{statement}
 use Rattle.nodes.proofs.mark.Tie as tie
-use Rattle.nodes.proofs.mark.Reads as reads
-use Rattle.nodes.proofs.mark.Lts as lts
-use Rattle.nodes.proofs.any_flagged.Reads as any-flagged-reads
 
 abbrev Inv-loop : tie.InvT-loop
 Inv-loop keep tets marks₀ n e₀ marks e = (e ≤ n) × (length marks ≡ length marks₀) × (marks ≡ overwrite (λ i. anyFlagged keep (getD tets i [])) e marks₀)

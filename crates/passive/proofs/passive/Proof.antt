@@ -1,6 +1,5 @@
 -- `passive::passive` meets its contract: a refusal touches nothing, and what is not refused has lists that are long enough. Assumes nothing.
 use mathlib.Core.Path.{_≡_, sym, _∙_}
-use mathlib.Core.Bool.{not}
 use Prim.Native.Nat.{ℕ, _≤_}
 use native.Mathlib.Omega.{arith}
 use denote.Ref.{now}
@@ -8,11 +7,6 @@ use Rattle.passive.specs.Passive.{Problem, Lent, refusalOf}
 use Rattle.passive.proofs.Fits.{refusal-is, roomy, refused, accepted}
 use Rattle.passive.proofs.passive.Statement.{statement}
 use Rattle.passive.proofs.passive.Tie as tie
-use Rattle.passive.proofs.passive.Reads as reads
-use Rattle.passive.proofs.passive.Lts as lts
-use Rattle.passive.proofs.refuse.refusal.Reads as refusal-reads
-use Rattle.passive.proofs.refuse.too_short.Reads as too-short-reads
-use Rattle.passive.proofs.stages.mark_front.Reads as mark-front-reads
 
 abbrev problem : (s : tie.Start) → Problem
 problem s = let a = s .args in record { nodes = now (a .nodes); tets = now (a .tets); tris = now (a .tris); surfaces = now (a .surfaces); held = now (a .held); loaded = now (a .loaded); starts = now (a .starts); kept = now (a .kept); depths = now (a .depths) }

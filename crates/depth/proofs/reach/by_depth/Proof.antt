@@ -8,12 +8,6 @@ use Rattle.depth.specs.Steps.{reachedBy}
 use borrow.Author.Needs.{needs}
 use Rattle.depth.proofs.reach.by_depth.Statement.{statement}
 use Rattle.depth.proofs.reach.by_depth.Tie as tie
-use Rattle.depth.proofs.reach.by_depth.Reads as reads
-use Rattle.depth.proofs.reach.by_depth.Lts as lts
-use Rattle.cells.proofs.file.Reads as file-reads
-use Rattle.depth.proofs.cell_size.Reads as cell-size-reads
-use Rattle.depth.proofs.cells_of.Reads as cells-of-reads
-use Rattle.depth.proofs.reach.reach_all.Reads as reach-all-reads
 
 cell-size-requires : tie.Need-cell-size-requires
 cell-size-requires c κs = c .before .before .before .before .before .before .before .pre .1

@@ -6,9 +6,6 @@ use Rattle.depth.specs.Depth.{highOf}
 use borrow.Author.Needs.{needs}
 use Rattle.depth.proofs.reach.high.Statement.{statement}
 use Rattle.depth.proofs.reach.high.Tie as tie
-use Rattle.depth.proofs.reach.high.Reads as reads
-use Rattle.depth.proofs.reach.high.Lts as lts
-use Rattle.geom.proofs.Vec3.max.Reads as max-reads
 
 max-requires : tie.Need-max-requires
 max-requires c κs = search needs

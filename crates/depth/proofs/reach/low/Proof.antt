@@ -7,9 +7,6 @@ use Rattle.depth.specs.Depth.{lowOf}
 use borrow.Author.Needs.{needs}
 use Rattle.depth.proofs.reach.low.Statement.{statement}
 use Rattle.depth.proofs.reach.low.Tie as tie
-use Rattle.depth.proofs.reach.low.Reads as reads
-use Rattle.depth.proofs.reach.low.Lts as lts
-use Rattle.geom.proofs.Vec3.min.Reads as min-reads
 
 min-requires : tie.Need-min-requires
 min-requires c κs = search needs

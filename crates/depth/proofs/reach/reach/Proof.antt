@@ -3,18 +3,11 @@ use mathlib.Core.Path.{_≡_, ap, _∙_}
 use Prim.Native.Nat.{_+_, _-_, _^_, min}
 use denote.Ref.{now}
 use Rattle.geom.specs.declared.Vec3.{Vec3}
-use Rattle.depth.specs.Depth.{cellNumber, reaches, lowOf, highOf}
+use Rattle.depth.specs.Depth.{cellNumber, lowOf, highOf}
 use Rattle.depth.proofs.Covers.{cells-many, reach-done, reach-none-x, reach-none-y}
 use borrow.Author.Needs.{needs}
 use Rattle.depth.proofs.reach.reach.Statement.{statement}
 use Rattle.depth.proofs.reach.reach.Tie as tie
-use Rattle.depth.proofs.reach.reach.Reads as reads
-use Rattle.depth.proofs.reach.reach.Lts as lts
-use Rattle.depth.proofs.reach.above.Reads as above-reads
-use Rattle.depth.proofs.reach.below.Reads as below-reads
-use Rattle.depth.proofs.reach.high.Reads as high-reads
-use Rattle.depth.proofs.reach.low.Reads as low-reads
-use Rattle.depth.proofs.walk.block.Reads as block-reads
 
 -- the cells of the box about the triangle
 ex0 : (u : tie.After-above3) → u .before .before .before .before .before .below .result ≡ cellNumber (lowOf (u .before .before .before .before .before .before .before .before .before .before .before .args .t) .x) (u .before .before .before .before .before .before .before .before .before .before .before .args .size) - 1

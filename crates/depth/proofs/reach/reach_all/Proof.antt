@@ -15,11 +15,6 @@ use Rattle.depth.specs.Depth.{cornersOf}
 use Rattle.depth.specs.Steps.{reached, reachedBy}
 use Rattle.depth.proofs.reach.reach_all.Statement.{statement}
 use Rattle.depth.proofs.reach.reach_all.Tie as tie
-use Rattle.depth.proofs.reach.reach_all.Reads as reads
-use Rattle.depth.proofs.reach.reach_all.Lts as lts
-use Rattle.depth.proofs.corners.Reads as corners-reads
-use Rattle.depth.proofs.reach.reach.Reads as reach-reads
-use Rattle.nodes.proofs.in_set.Reads as in-set-reads
 
 abbrev step : List (List Float) → List (List ℕ) → List ℕ → List ℕ → List ℕ → ℕ → Float → Float → List (List Float) → ℕ → List Bool → List Bool
 step nodes tris surfaces starts kept s size depth middles i w = choose (inSet surfaces starts kept s i) (reached size depth (cornersOf nodes (getD tris i [])) middles w) w

@@ -13,9 +13,6 @@ use Rattle.depth.specs.Steps.{boxNear}
 use Rattle.depth.proofs.Near.{near-grows-x}
 use Rattle.depth.proofs.walk.block.Statement.{statement}
 use Rattle.depth.proofs.walk.block.Tie as tie
-use Rattle.depth.proofs.walk.block.Reads as reads
-use Rattle.depth.proofs.walk.block.Lts as lts
-use Rattle.depth.proofs.walk.plane.Reads as plane-reads
 
 abbrev Inv-loop : tie.InvT-loop
 Inv-loop t limit m x0 x1 y0 y1 z0 z1 middles cells order first marks₀ x₀ marks x = (x0 ≤ x) × (x ≤ x1) × (length marks ≡ length marks₀)

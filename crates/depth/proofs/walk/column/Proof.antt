@@ -12,10 +12,6 @@ use Rattle.depth.specs.Steps.{boxNear}
 use Rattle.depth.proofs.Near.{near-box, near-own, look-more}
 use Rattle.depth.proofs.walk.column.Statement.{statement}
 use Rattle.depth.proofs.walk.column.Tie as tie
-use Rattle.depth.proofs.walk.column.Reads as reads
-use Rattle.depth.proofs.walk.column.Lts as lts
-use Rattle.cells.proofs.span.Reads as span-reads
-use Rattle.depth.proofs.walk.look.Reads as look-reads
 
 abbrev Inv-loop : tie.InvT-loop
 Inv-loop t limit m x y z0 z1 middles cells order first marks₀ k₀ to marks k = (k₀ ≤ k) × (k ≤ to) × (to ≤ length cells) × (length marks ≡ length marks₀)

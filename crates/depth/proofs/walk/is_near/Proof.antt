@@ -8,10 +8,6 @@ use Rattle.depth.specs.Depth.{atMost}
 use borrow.Author.Needs.{needs}
 use Rattle.depth.proofs.walk.is_near.Statement.{statement}
 use Rattle.depth.proofs.walk.is_near.Tie as tie
-use Rattle.depth.proofs.walk.is_near.Reads as reads
-use Rattle.depth.proofs.walk.is_near.Lts as lts
-use Rattle.faces.proofs.dist2_to_triangle.Reads as dist2-to-triangle-reads
-use Rattle.mesh.proofs.point.Reads as point-reads
 
 point-requires : tie.Need-point-requires
 point-requires c κs = search needs

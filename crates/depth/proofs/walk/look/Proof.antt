@@ -8,10 +8,6 @@ use Rattle.depth.proofs.Near.{marked-stays}
 use borrow.Author.Needs.{needs}
 use Rattle.depth.proofs.walk.look.Statement.{statement}
 use Rattle.depth.proofs.walk.look.Tie as tie
-use Rattle.depth.proofs.walk.look.Reads as reads
-use Rattle.depth.proofs.walk.look.Lts as lts
-use Rattle.cells.proofs.in_column.Reads as in-column-reads
-use Rattle.depth.proofs.walk.is_near.Reads as is-near-reads
 
 mul-i : tie.Need-mul-i
 mul-i c = search needs

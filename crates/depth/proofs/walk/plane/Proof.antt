@@ -13,9 +13,6 @@ use Rattle.depth.specs.Steps.{boxNear}
 use Rattle.depth.proofs.Near.{near-grows-y}
 use Rattle.depth.proofs.walk.plane.Statement.{statement}
 use Rattle.depth.proofs.walk.plane.Tie as tie
-use Rattle.depth.proofs.walk.plane.Reads as reads
-use Rattle.depth.proofs.walk.plane.Lts as lts
-use Rattle.depth.proofs.walk.column.Reads as column-reads
 
 abbrev Inv-loop : tie.InvT-loop
 Inv-loop t limit m x y0 y1 z0 z1 middles cells order first marks₀ y₀ marks y = (y0 ≤ y) × (y ≤ y1) × (length marks ≡ length marks₀)

@@ -11,9 +11,6 @@ use Rattle.lists.proofs.Laws.{any-none, any-step}
 use Rattle.passive.specs.Passive.{namesNone, anyNamesNone}
 use Rattle.passive.proofs.refuse.any_names_none.Statement.{statement}
 use Rattle.passive.proofs.refuse.any_names_none.Tie as tie
-use Rattle.passive.proofs.refuse.any_names_none.Reads as reads
-use Rattle.passive.proofs.refuse.any_names_none.Lts as lts
-use Rattle.passive.proofs.refuse.names_none.Reads as names-none-reads
 
 abbrev Inv-loop : tie.InvT-loop
 Inv-loop tris nodes found₀ t₀ found t = (t ≤ length tris) × (found ≡ anyTo (λ k. namesNone nodes (getD tris k [])) t)

@@ -11,10 +11,6 @@ use Rattle.lists.proofs.Laws.{any-none, any-step}
 use Rattle.mesh.specs.Mesh.{point, nodeOutside, nodesOutside}
 use Rattle.passive.proofs.refuse.any_outside.Statement.{statement}
 use Rattle.passive.proofs.refuse.any_outside.Tie as tie
-use Rattle.passive.proofs.refuse.any_outside.Reads as reads
-use Rattle.passive.proofs.refuse.any_outside.Lts as lts
-use Rattle.mesh.proofs.outside.Reads as outside-reads
-use Rattle.mesh.proofs.point.Reads as point-reads
 
 abbrev Inv-loop : tie.InvT-loop
 Inv-loop nodes found₀ i₀ found i = (i ≤ length nodes) × (found ≡ anyTo (λ k. nodeOutside (point (getD nodes k []))) i)

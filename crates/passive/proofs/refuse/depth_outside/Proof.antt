@@ -7,9 +7,6 @@ use Rattle.passive.specs.Passive.{thousandth64, depthOutside}
 use borrow.Author.Needs.{needs}
 use Rattle.passive.proofs.refuse.depth_outside.Statement.{statement}
 use Rattle.passive.proofs.refuse.depth_outside.Tie as tie
-use Rattle.passive.proofs.refuse.depth_outside.Reads as reads
-use Rattle.passive.proofs.refuse.depth_outside.Lts as lts
-use Rattle.depth.proofs.is_depth.Reads as is-depth-reads
 
 is-depth-requires : tie.Need-is-depth-requires
 is-depth-requires c κs = search needs

@@ -11,9 +11,6 @@ use Rattle.lists.proofs.Laws.{any-none, any-step}
 use Rattle.passive.specs.Passive.{depthOutside, depthsOutside}
 use Rattle.passive.proofs.refuse.depths_outside.Statement.{statement}
 use Rattle.passive.proofs.refuse.depths_outside.Tie as tie
-use Rattle.passive.proofs.refuse.depths_outside.Reads as reads
-use Rattle.passive.proofs.refuse.depths_outside.Lts as lts
-use Rattle.passive.proofs.refuse.depth_outside.Reads as depth-outside-reads
 
 abbrev Inv-loop : tie.InvT-loop
 Inv-loop depths found₀ s₀ found s = (s ≤ length depths) × (found ≡ anyTo (λ k. depthOutside (getD depths k nan)) s)

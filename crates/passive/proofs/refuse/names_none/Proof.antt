@@ -11,8 +11,6 @@ use Rattle.lists.proofs.Laws.{any-none, any-step}
 use Rattle.passive.specs.Passive.{namesNone}
 use Rattle.passive.proofs.refuse.names_none.Statement.{statement}
 use Rattle.passive.proofs.refuse.names_none.Tie as tie
-use Rattle.passive.proofs.refuse.names_none.Reads as reads
-use Rattle.passive.proofs.refuse.names_none.Lts as lts
 
 abbrev Inv-loop : tie.InvT-loop
 Inv-loop nodes tri found₀ k₀ found k = (k ≤ 6) × (found ≡ anyTo (λ j. leb nodes (getD tri j 0)) k)

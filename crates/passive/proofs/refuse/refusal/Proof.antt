@@ -3,11 +3,6 @@ use mathlib.Core.Path.{sym, _∙_}
 use Rattle.lists.proofs.Laws.{choose-true, choose-false}
 use Rattle.passive.proofs.refuse.refusal.Statement.{statement}
 use Rattle.passive.proofs.refuse.refusal.Tie as tie
-use Rattle.passive.proofs.refuse.refusal.Reads as reads
-use Rattle.passive.proofs.refuse.refusal.Lts as lts
-use Rattle.passive.proofs.refuse.any_names_none.Reads as any-names-none-reads
-use Rattle.passive.proofs.refuse.any_outside.Reads as any-outside-reads
-use Rattle.passive.proofs.refuse.depths_outside.Reads as depths-outside-reads
 
 returns : tie.Need-returns
 returns c = sym (choose-true _ _ _ (c .if1 .taken))

@@ -1,11 +1,8 @@
 -- `passive::refuse::too_short` meets its contract: at most n is below n + 1. Assumes nothing.
-use Prim.Native.Nat.{_+_}
 use Rattle.passive.specs.Passive.{tooShort}
 use Rattle.passive.proofs.Fits.{leb-ltb}
 use Rattle.passive.proofs.refuse.too_short.Statement.{statement}
 use Rattle.passive.proofs.refuse.too_short.Tie as tie
-use Rattle.passive.proofs.refuse.too_short.Reads as reads
-use Rattle.passive.proofs.refuse.too_short.Lts as lts
 
 returns : tie.Need-returns
 unfolding tooShort

@@ -14,10 +14,6 @@ use Rattle.passive.specs.Steps.{deepened, deepenedTo}
 use Rattle.passive.proofs.Solid.{deepened-none, deepened-more}
 use Rattle.passive.proofs.stages.by_depths.Statement.{statement}
 use Rattle.passive.proofs.stages.by_depths.Tie as tie
-use Rattle.passive.proofs.stages.by_depths.Reads as reads
-use Rattle.passive.proofs.stages.by_depths.Lts as lts
-use Rattle.depth.proofs.is_depth.Reads as is-depth-reads
-use Rattle.depth.proofs.reach.by_depth.Reads as by-depth-reads
 
 -- what the sets are read from
 abbrev sets-of : List (List Float) → List (List ℕ) → List ℕ → List ℕ → List ℕ → List Float → Problem

@@ -12,11 +12,6 @@ use Rattle.passive.specs.Passive.{Problem}
 use Rattle.passive.proofs.Solid.{solid, solid-none, sets-only}
 use Rattle.passive.proofs.stages.mark.Statement.{statement}
 use Rattle.passive.proofs.stages.mark.Tie as tie
-use Rattle.passive.proofs.stages.mark.Reads as reads
-use Rattle.passive.proofs.stages.mark.Lts as lts
-use Rattle.nodes.proofs.by_nodes.Reads as by-nodes-reads
-use Rattle.passive.proofs.stages.by_depths.Reads as by-depths-reads
-use Rattle.passive.proofs.stages.middles_of.Reads as middles-of-reads
 
 abbrev problem : (s : tie.Start) → Problem
 problem s = let a = s .args in record { nodes = now (a .nodes); tets = now (a .tets); tris = now (a .tris); surfaces = now (a .surfaces); held = now (a .held); loaded = now (a .loaded); starts = now (a .starts); kept = now (a .kept); depths = now (a .depths) }

@@ -9,9 +9,6 @@ use Rattle.passive.proofs.Solid.{solid-front}
 use borrow.Author.Needs.{needs}
 use Rattle.passive.proofs.stages.mark_front.Statement.{statement}
 use Rattle.passive.proofs.stages.mark_front.Tie as tie
-use Rattle.passive.proofs.stages.mark_front.Reads as reads
-use Rattle.passive.proofs.stages.mark_front.Lts as lts
-use Rattle.passive.proofs.stages.mark.Reads as mark-reads
 
 abbrev problem : (s : tie.Start) → Problem
 problem s = let a = s .args in record { nodes = now (a .nodes); tets = now (a .tets); tris = now (a .tris); surfaces = now (a .surfaces); held = now (a .held); loaded = now (a .loaded); starts = now (a .starts); kept = now (a .kept); depths = now (a .depths) }

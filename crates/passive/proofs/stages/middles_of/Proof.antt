@@ -12,9 +12,6 @@ use Rattle.mesh.specs.Mesh.{stored, centroidOf}
 use Rattle.nodes.proofs.Adds.{overwrite-all}
 use Rattle.passive.proofs.stages.middles_of.Statement.{statement}
 use Rattle.passive.proofs.stages.middles_of.Tie as tie
-use Rattle.passive.proofs.stages.middles_of.Reads as reads
-use Rattle.passive.proofs.stages.middles_of.Lts as lts
-use Rattle.mesh.proofs.centroid.Reads as centroid-reads
 
 abbrev Inv-loop : tie.InvT-loop
 Inv-loop nodes tets middles₀ n e₀ middles e = (e ≤ n) × (length middles ≡ length middles₀) × (middles ≡ overwrite (λ i. stored (centroidOf nodes (getD tets i []))) e middles₀)
