@@ -255,7 +255,8 @@ def declarations(functions):
         out += [f"    pub {field}: {kind}," for field, kind in STRUCTS[name]]
         out += ["}", f"const _: () = assert!(size_of::<{name}>() == {size} && align_of::<{name}>() == {align});", ""]
     plain = [name for name, _, parameters, _ in functions if not any("*" in p for n, kind in parameters for p in rust_parameter(n, kind))]
-    out += ["mod library {", f"    use super::{{{', '.join(sorted(in_order(functions)))}}};", "", '    unsafe extern "C" {']
+    direct = {w for _, _, parameters, result in functions for kind in [k for _, k in parameters] + [result or ""] for w in re.findall(r"[A-Z]\w*", kind)}
+    out += ["mod library {", f"    use super::{{{', '.join(sorted(direct))}}};", "", '    unsafe extern "C" {']
     for name, comment, parameters, result in functions:
         given = [p for n, kind in parameters for p in rust_parameter(n, kind)]
         out += [f"        /// {line}" for line in comment if name in plain]

@@ -5,9 +5,10 @@
 //! For the leaves, prints nanoseconds a call for each side and their ratio, ours by the Rust's: below 1 is faster. Each repetition times both sides
 //! one after the other, and the best of all repetitions counts. A line "list" is one call of the library for the whole list, beside
 //! the Rust's loop as the compiler makes it; a line "calls" is one call for each element on both sides. Then prints milliseconds a call of
-//! meshes, the filter and the update, on blocks of tetrahedra: the Rust makes its lists in each call, and the library is lent them.
+//! meshes, the filter, the update and whole runs, on blocks of tetrahedra: the Rust makes its lists in each call, and the library is lent them.
 mod meshes;
 mod rounds;
+mod runs;
 
 use std::hint::black_box;
 use std::time::Instant;
@@ -122,4 +123,5 @@ fn main() {
     println!("\n{:<40} {:>13} {:>13} {:>7}", "best of each side", "ours", "Rust", "ratio");
     meshes::all(repetitions);
     rounds::all(repetitions);
+    runs::all(repetitions);
 }

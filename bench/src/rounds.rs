@@ -13,13 +13,14 @@ use tenon::topo::{Design, Filter, MOVE, Mirror, level_of};
 use tenon::{Vec3, topo};
 
 /// Cells of a block, each six tetrahedra: about 1,000, 8,000 and 64,000 of them.
-const BLOCKS: [[usize; 3]; 3] = [[5, 6, 6], [11, 11, 11], [22, 22, 22]];
+pub const BLOCKS: [[usize; 3]; 3] = [[5, 6, 6], [11, 11, 11], [22, 22, 22]];
 /// In cells.
-const RADIUS: f64 = 1.5;
+pub const RADIUS: f64 = 1.5;
 /// How long each side of a line is timed for at least.
 const SECONDS: f64 = 0.3;
 
-/// Best seconds of each side, one after the other until both were timed long enough, `repetitions` times at most.
+/// Best seconds of each side, one after the other until both were timed long enough, `repetitions` times at most, and three times at least unless
+/// that is less.
 pub fn best(repetitions: usize, mut ours: impl FnMut(), mut rust: impl FnMut()) -> (f64, f64) {
     let time = |f: &mut dyn FnMut()| {
         let began = Instant::now();
@@ -27,7 +28,7 @@ pub fn best(repetitions: usize, mut ours: impl FnMut(), mut rust: impl FnMut()) 
         began.elapsed().as_secs_f64()
     };
     let (mut least, mut spent, mut done) = ((f64::INFINITY, f64::INFINITY), 0.0, 0);
-    while done < 3 || (done < repetitions && spent < SECONDS) {
+    while done < repetitions.min(3) || (done < repetitions && spent < SECONDS) {
         let (a, b) = (time(&mut ours), time(&mut rust));
         least = (least.0.min(a), least.1.min(b));
         spent += a.min(b);
@@ -44,14 +45,14 @@ pub fn grouped(n: usize) -> String {
     if n < 1000 { n.to_string() } else { format!("{},{:03}", n / 1000, n % 1000) }
 }
 
-struct Block {
-    design: Design,
+pub struct Block {
+    pub design: Design,
     /// Energies that fall off from one corner, with some noise.
-    weights: Vec<f64>,
+    pub weights: Vec<f64>,
 }
 
 impl Block {
-    fn new(cells: [usize; 3]) -> Block {
+    pub fn new(cells: [usize; 3]) -> Block {
         let mesh = TetMesh::block(cells, Vec3::new(cells[0] as f64, cells[1] as f64, cells[2] as f64));
         let mut random = Random(0x9e37_79b9_7f4a_7c15);
         let centroids: Vec<Vec3> = mesh.tets.iter().map(|t| mesh.centroid(t)).collect();

@@ -50,6 +50,43 @@ typedef struct {
 } SokdribKept;
 
 typedef struct {
+    uint32_t phase;
+    size_t elements;
+    size_t entries;
+    double fraction;
+    bool sharpen;
+    size_t max_iterations;
+    size_t rounds;
+    size_t stage;
+    size_t at_stage;
+    size_t steady;
+    double solid_compliance;
+    double compliance;
+} SokdribRunState;
+
+typedef struct {
+    SokdribRunState state;
+    uint32_t reply;
+    size_t number;
+} SokdribRunTold;
+
+typedef struct {
+    size_t number;
+    double compliance;
+    double fraction;
+    double change;
+    double sharpness;
+    double grey;
+    size_t passes;
+} SokdribRunRecord;
+
+typedef struct {
+    SokdribRunTold told;
+    size_t at;
+    SokdribRunRecord entry;
+} SokdribRunStep;
+
+typedef struct {
     uint32_t refused;
     uint32_t ending;
     double first;
@@ -64,6 +101,10 @@ _Static_assert(sizeof(SokdribMade) == 16, "SokdribMade");
 _Static_assert(sizeof(SokdribStart) == 48, "SokdribStart");
 _Static_assert(sizeof(SokdribProjected) == 16, "SokdribProjected");
 _Static_assert(sizeof(SokdribKept) == 16, "SokdribKept");
+_Static_assert(sizeof(SokdribRunState) == 96, "SokdribRunState");
+_Static_assert(sizeof(SokdribRunTold) == 112, "SokdribRunTold");
+_Static_assert(sizeof(SokdribRunRecord) == 56, "SokdribRunRecord");
+_Static_assert(sizeof(SokdribRunStep) == 176, "SokdribRunStep");
 _Static_assert(sizeof(SokdribUpdate) == 32, "SokdribUpdate");
 #endif
 
@@ -388,6 +429,96 @@ double sokdrib_change(const double *next, size_t next_len, const double *x, size
 
 /* How far from solid or empty the densities are, as far as both lists go: total is the volume that is not held solid. */
 double sokdrib_grey(const double *density, size_t density_len, const double *free, size_t free_len, double total);
+
+/* Opens a run on a state with none open: the solid part is asked for, or the refusal's number is told. room is how many records the history has room
+ * for; the opening writes none. 1 to 12, 20, and 14 before the first row, leave all lists as before; 13 and 14 at a row leave the filter's lists and the
+ * working lists (cell and those after it) zero throughout, and 15, by the flag, the finished filter and the working lists zero. The fresh state is all zero. */
+SokdribRunTold sokdrib_open(
+    size_t room,
+    SokdribRunState state,
+    double fraction,
+    double radius,
+    bool sharpen,
+    size_t max_iterations,
+    bool flag,
+    const double *volumes,
+    size_t volumes_len,
+    const double (*centroids)[3],
+    size_t centroids_len,
+    const bool *passive,
+    size_t passive_len,
+    const double (*mirrors)[6],
+    size_t mirrors_len,
+    uint32_t *starts,
+    size_t starts_len,
+    uint32_t *near_,
+    size_t near_len,
+    double *coef,
+    size_t coef_len,
+    double *design,
+    size_t design_len,
+    double *density,
+    size_t density_len,
+    const double *last,
+    size_t last_len,
+    uint64_t (*cell)[3],
+    size_t cell_len,
+    uint32_t *order,
+    size_t order_len,
+    uint32_t *first,
+    size_t first_len,
+    double (*sorted)[3],
+    size_t sorted_len,
+    uint32_t *stamp,
+    size_t stamp_len,
+    double *weight,
+    size_t weight_len,
+    uint32_t *found,
+    size_t found_len,
+    uint64_t *bits,
+    size_t bits_len
+);
+
+/* The solver's answer to the last question: said is 0 where it gave the energies, 1 where it failed, any other number where it stopped; then whether the run
+ * is to stop, and the milliseconds elapsed and allowed. The filter's lists, the design and both densities are those that the last call left. The record that
+ * is told is to be put at its place of the history, which has room for so many records; where the place is past that there is none. free and the
+ * lists after it are for the call's own use. */
+SokdribRunStep sokdrib_answer(
+    size_t room,
+    SokdribRunState state,
+    uint32_t said,
+    bool flag,
+    uint64_t elapsed,
+    uint64_t allowed,
+    const double *energies,
+    size_t energies_len,
+    const double *volumes,
+    size_t volumes_len,
+    const bool *passive,
+    size_t passive_len,
+    const uint32_t *starts,
+    size_t starts_len,
+    const uint32_t *near_,
+    size_t near_len,
+    const double *coef,
+    size_t coef_len,
+    double *design,
+    size_t design_len,
+    double *density,
+    size_t density_len,
+    double *last,
+    size_t last_len,
+    double *free,
+    size_t free_len,
+    double *slope,
+    size_t slope_len,
+    double *spare,
+    size_t spare_len,
+    double *dc,
+    size_t dc_len,
+    double *dv,
+    size_t dv_len
+);
 
 /* One update of the design x, from the slopes dc of the work and dv of the volume: each value moved by at most m, the rate found at which the
  * volume kept is within tolerance of target. The rule and its value are those of sokdrib_kept, with dv for the slope of the volume. design is

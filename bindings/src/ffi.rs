@@ -61,6 +61,55 @@ const _: () = assert!(size_of::<Kept>() == 16 && align_of::<Kept>() == 8);
 
 #[repr(C)]
 #[derive(Clone, Copy, Debug, Default, PartialEq)]
+pub struct RunState {
+    pub phase: u32,
+    pub elements: usize,
+    pub entries: usize,
+    pub fraction: f64,
+    pub sharpen: bool,
+    pub max_iterations: usize,
+    pub rounds: usize,
+    pub stage: usize,
+    pub at_stage: usize,
+    pub steady: usize,
+    pub solid_compliance: f64,
+    pub compliance: f64,
+}
+const _: () = assert!(size_of::<RunState>() == 96 && align_of::<RunState>() == 8);
+
+#[repr(C)]
+#[derive(Clone, Copy, Debug, Default, PartialEq)]
+pub struct RunTold {
+    pub state: RunState,
+    pub reply: u32,
+    pub number: usize,
+}
+const _: () = assert!(size_of::<RunTold>() == 112 && align_of::<RunTold>() == 8);
+
+#[repr(C)]
+#[derive(Clone, Copy, Debug, Default, PartialEq)]
+pub struct RunRecord {
+    pub number: usize,
+    pub compliance: f64,
+    pub fraction: f64,
+    pub change: f64,
+    pub sharpness: f64,
+    pub grey: f64,
+    pub passes: usize,
+}
+const _: () = assert!(size_of::<RunRecord>() == 56 && align_of::<RunRecord>() == 8);
+
+#[repr(C)]
+#[derive(Clone, Copy, Debug, Default, PartialEq)]
+pub struct RunStep {
+    pub told: RunTold,
+    pub at: usize,
+    pub entry: RunRecord,
+}
+const _: () = assert!(size_of::<RunStep>() == 176 && align_of::<RunStep>() == 8);
+
+#[repr(C)]
+#[derive(Clone, Copy, Debug, Default, PartialEq)]
 pub struct Update {
     pub refused: u32,
     pub ending: u32,
@@ -71,7 +120,7 @@ pub struct Update {
 const _: () = assert!(size_of::<Update>() == 32 && align_of::<Update>() == 8);
 
 mod library {
-    use super::{Kept, Made, Mirror, Projected, Start, Update, Vec3};
+    use super::{Kept, Made, Mirror, Projected, RunState, RunStep, RunTold, Start, Update, Vec3};
 
     unsafe extern "C" {
         /// The size of x.
@@ -313,6 +362,87 @@ mod library {
         pub unsafe fn sokdrib_fraction(volumes: *const f64, volumes_len: usize, density: *const f64, density_len: usize, total: f64) -> f64;
         pub unsafe fn sokdrib_change(next: *const f64, next_len: usize, x: *const f64, x_len: usize) -> f64;
         pub unsafe fn sokdrib_grey(density: *const f64, density_len: usize, free: *const f64, free_len: usize, total: f64) -> f64;
+        pub unsafe fn sokdrib_open(
+            room: usize,
+            state: RunState,
+            fraction: f64,
+            radius: f64,
+            sharpen: bool,
+            max_iterations: usize,
+            flag: bool,
+            volumes: *const f64,
+            volumes_len: usize,
+            centroids: *const [f64; 3],
+            centroids_len: usize,
+            passive: *const bool,
+            passive_len: usize,
+            mirrors: *const [f64; 6],
+            mirrors_len: usize,
+            starts: *mut u32,
+            starts_len: usize,
+            near: *mut u32,
+            near_len: usize,
+            coef: *mut f64,
+            coef_len: usize,
+            design: *mut f64,
+            design_len: usize,
+            density: *mut f64,
+            density_len: usize,
+            last: *const f64,
+            last_len: usize,
+            cell: *mut [u64; 3],
+            cell_len: usize,
+            order: *mut u32,
+            order_len: usize,
+            first: *mut u32,
+            first_len: usize,
+            sorted: *mut [f64; 3],
+            sorted_len: usize,
+            stamp: *mut u32,
+            stamp_len: usize,
+            weight: *mut f64,
+            weight_len: usize,
+            found: *mut u32,
+            found_len: usize,
+            bits: *mut u64,
+            bits_len: usize,
+        ) -> RunTold;
+        pub unsafe fn sokdrib_answer(
+            room: usize,
+            state: RunState,
+            said: u32,
+            flag: bool,
+            elapsed: u64,
+            allowed: u64,
+            energies: *const f64,
+            energies_len: usize,
+            volumes: *const f64,
+            volumes_len: usize,
+            passive: *const bool,
+            passive_len: usize,
+            starts: *const u32,
+            starts_len: usize,
+            near: *const u32,
+            near_len: usize,
+            coef: *const f64,
+            coef_len: usize,
+            design: *mut f64,
+            design_len: usize,
+            density: *mut f64,
+            density_len: usize,
+            last: *mut f64,
+            last_len: usize,
+            free: *mut f64,
+            free_len: usize,
+            slope: *mut f64,
+            slope_len: usize,
+            spare: *mut f64,
+            spare_len: usize,
+            dc: *mut f64,
+            dc_len: usize,
+            dv: *mut f64,
+            dv_len: usize,
+        ) -> RunStep;
         pub unsafe fn sokdrib_update(
             x: *const f64,
             x_len: usize,
@@ -645,6 +775,119 @@ pub fn sokdrib_change(next: &[f64], x: &[f64]) -> f64 {
 pub fn sokdrib_grey(density: &[f64], free: &[f64], total: f64) -> f64 {
     // SAFETY: see above.
     unsafe { library::sokdrib_grey(density.as_ptr(), density.len(), free.as_ptr(), free.len(), total) }
+}
+
+/// Opens a run on a state with none open: the solid part is asked for, or the refusal's number is told. room is how many records the history has room
+/// for; the opening writes none. 1 to 12, 20, and 14 before the first row, leave all lists as before; 13 and 14 at a row leave the filter's lists and the
+/// working lists (cell and those after it) zero throughout, and 15, by the flag, the finished filter and the working lists zero. The fresh state is all zero.
+#[allow(clippy::too_many_arguments)]
+pub fn sokdrib_open(
+    room: usize,
+    state: RunState,
+    fraction: f64,
+    radius: f64,
+    sharpen: bool,
+    max_iterations: usize,
+    flag: bool,
+    volumes: &[f64],
+    centroids: &[[f64; 3]],
+    passive: &[bool],
+    mirrors: &[[f64; 6]],
+    starts: &mut [u32],
+    near: &mut [u32],
+    coef: &mut [f64],
+    design: &mut [f64],
+    density: &mut [f64],
+    last: &[f64],
+    cell: &mut [[u64; 3]],
+    order: &mut [u32],
+    first: &mut [u32],
+    sorted: &mut [[f64; 3]],
+    stamp: &mut [u32],
+    weight: &mut [f64],
+    found: &mut [u32],
+    bits: &mut [u64],
+) -> RunTold {
+    // SAFETY: see above.
+    unsafe { library::sokdrib_open(
+        room,
+        state,
+        fraction,
+        radius,
+        sharpen,
+        max_iterations,
+        flag,
+        volumes.as_ptr(), volumes.len(),
+        centroids.as_ptr(), centroids.len(),
+        passive.as_ptr(), passive.len(),
+        mirrors.as_ptr(), mirrors.len(),
+        starts.as_mut_ptr(), starts.len(),
+        near.as_mut_ptr(), near.len(),
+        coef.as_mut_ptr(), coef.len(),
+        design.as_mut_ptr(), design.len(),
+        density.as_mut_ptr(), density.len(),
+        last.as_ptr(), last.len(),
+        cell.as_mut_ptr(), cell.len(),
+        order.as_mut_ptr(), order.len(),
+        first.as_mut_ptr(), first.len(),
+        sorted.as_mut_ptr(), sorted.len(),
+        stamp.as_mut_ptr(), stamp.len(),
+        weight.as_mut_ptr(), weight.len(),
+        found.as_mut_ptr(), found.len(),
+        bits.as_mut_ptr(), bits.len()
+    ) }
+}
+
+/// The solver's answer to the last question: said is 0 where it gave the energies, 1 where it failed, any other number where it stopped; then whether the run
+/// is to stop, and the milliseconds elapsed and allowed. The filter's lists, the design and both densities are those that the last call left. The record that
+/// is told is to be put at its place of the history, which has room for so many records; where the place is past that there is none. free and the
+/// lists after it are for the call's own use.
+#[allow(clippy::too_many_arguments)]
+pub fn sokdrib_answer(
+    room: usize,
+    state: RunState,
+    said: u32,
+    flag: bool,
+    elapsed: u64,
+    allowed: u64,
+    energies: &[f64],
+    volumes: &[f64],
+    passive: &[bool],
+    starts: &[u32],
+    near: &[u32],
+    coef: &[f64],
+    design: &mut [f64],
+    density: &mut [f64],
+    last: &mut [f64],
+    free: &mut [f64],
+    slope: &mut [f64],
+    spare: &mut [f64],
+    dc: &mut [f64],
+    dv: &mut [f64],
+) -> RunStep {
+    // SAFETY: see above.
+    unsafe { library::sokdrib_answer(
+        room,
+        state,
+        said,
+        flag,
+        elapsed,
+        allowed,
+        energies.as_ptr(), energies.len(),
+        volumes.as_ptr(), volumes.len(),
+        passive.as_ptr(), passive.len(),
+        starts.as_ptr(), starts.len(),
+        near.as_ptr(), near.len(),
+        coef.as_ptr(), coef.len(),
+        design.as_mut_ptr(), design.len(),
+        density.as_mut_ptr(), density.len(),
+        last.as_mut_ptr(), last.len(),
+        free.as_mut_ptr(), free.len(),
+        slope.as_mut_ptr(), slope.len(),
+        spare.as_mut_ptr(), spare.len(),
+        dc.as_mut_ptr(), dc.len(),
+        dv.as_mut_ptr(), dv.len()
+    ) }
 }
 
 /// One update of the design x, from the slopes dc of the work and dv of the volume: each value moved by at most m, the rate found at which the

@@ -5,6 +5,7 @@
 //! Prints a line for each function: how many cases, how many differences, and the smallest inputs that have one, as bits. Ends with
 //! status 1 where there are any. `--cases` is how many random inputs a leaf gets beside its edges, and functions over lists get fewer in
 //! proportion; `--long` means twenty times as many, and the largest tables and runs, which take some gigabytes.
+mod calls;
 mod compare;
 mod filter;
 mod inputs;
@@ -14,6 +15,8 @@ mod mesh;
 mod oc;
 mod plain;
 mod runs;
+#[cfg(test)]
+mod strips;
 
 use std::process::ExitCode;
 
@@ -49,5 +52,6 @@ fn main() -> ExitCode {
     filter::all(&mut run);
     oc::all(&mut run);
     runs::all(&mut run);
+    calls::all(&mut run);
     if run.close() { ExitCode::SUCCESS } else { ExitCode::FAILURE }
 }

@@ -16,7 +16,7 @@ pub fn all(run: &mut Run) {
 }
 
 /// A job that opens, mostly of few elements.
-fn small(g: &mut Gen) -> Job {
+pub fn small(g: &mut Gen) -> Job {
     loop {
         let n = if g.below(64) == 0 { 100 + g.below(300) } else { 1 + g.below(24) };
         let job = Job::random(g, n);
@@ -243,7 +243,7 @@ pub fn original_trace(job: &Job) -> Trace {
 }
 
 /// Whether the original does not refuse the job before it asks anything: its words for that have no numbers here.
-fn opens(job: &Job) -> bool {
+pub fn opens(job: &Job) -> bool {
     let room = Room::exact(job.opening.volumes.len(), usize::MAX, job.opening.rounds);
     !matches!(Plain::open(&job.opening, &room).1, Reply::Refused(k) if k != 15)
 }

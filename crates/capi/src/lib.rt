@@ -3,6 +3,7 @@ mod filters;
 mod lent;
 mod meshes;
 mod rounds;
+mod runs;
 mod updates;
 
 ghost use mathlib.Core.Path.{_≡_};

@@ -1,0 +1,68 @@
+//! Document 01's worked job, question by question, and calls that are refused, through the bindings.
+use sokdrib::Refused;
+use sokdrib::filter::Work;
+use sokdrib::run::{Answer, Goal, Iteration, Lists, Part, Reply, Said, Scratch, State, Stop, answer, open};
+
+const PART: Part<'static> = Part { volumes: &[1.0, 1.0], centroids: &[[0.0; 3], [10.0, 0.0, 0.0]], passive: &[true, false], mirrors: &[] };
+const GOAL: Goal = Goal { fraction: 0.75, radius: 1.0, sharpen: false, max_iterations: 1 };
+
+#[derive(Default)]
+struct Held {
+    starts: [u32; 3],
+    near: [u32; 2],
+    coef: [f64; 2],
+    floats: [[f64; 2]; 3],
+    history: [Iteration; 1],
+}
+
+impl Held {
+    fn lend(&mut self, records: usize) -> Lists<'_> {
+        let [design, density, last] = &mut self.floats;
+        Lists {
+            starts: &mut self.starts,
+            near: &mut self.near,
+            coef: &mut self.coef,
+            design,
+            density,
+            last,
+            history: &mut self.history[..records],
+        }
+    }
+}
+
+#[test]
+fn two_elements() {
+    let (mut state, mut held, mut work, mut scratch) = (State::default(), Held::default(), Work::of(2), Scratch::of(2));
+    let gave = |energies| Answer { said: Said::Gave(energies), flag: false, elapsed: 0, allowed: 1 };
+    let mut asks = |state: &mut State, held: &mut Held, a, records| answer(state, a, PART, held.lend(records), &mut scratch);
+    assert_eq!(asks(&mut state, &mut held, gave(&[]), 1), Err(Refused(20)));
+    assert_eq!(open(&mut state, PART, Goal { fraction: 1.0, ..GOAL }, false, held.lend(1), &mut work), Err(Refused(5)));
+    assert_eq!(open(&mut state, PART, GOAL, false, held.lend(0), &mut work), Err(Refused(14)));
+    assert_eq!(open(&mut state, PART, GOAL, true, held.lend(1), &mut work), Err(Refused(15)));
+    assert_eq!(open(&mut state, PART, GOAL, false, held.lend(1), &mut work), Ok(Reply::Solid));
+    assert_eq!(open(&mut state, PART, GOAL, false, held.lend(1), &mut work), Err(Refused(20)));
+    assert_eq!(held.floats[1], [1.0, 1.0]);
+    assert_eq!(asks(&mut state, &mut held, gave(&[0.5, 0.0]), 0), Err(Refused(14)));
+    assert_eq!(asks(&mut state, &mut held, gave(&[0.5, 0.0]), 1), Ok(Reply::Round(1)));
+    assert_eq!(held.floats[1], [1.0, 0.5]);
+    assert_eq!(asks(&mut state, &mut held, gave(&[0.5, 0.0]), 1), Ok(Reply::Stop(Stop::Limit)));
+    assert_eq!((held.floats[2], state.solid_compliance, state.rounds), ([1.0, 0.5], 1.0, 1));
+    let r = held.history[0];
+    let numbers = [r.compliance, r.fraction, r.change, r.sharpness, r.grey].map(f64::to_bits);
+    assert_eq!(numbers, [0x3FF0000000000000, 0x3FE8000000000000, 0x3FC999999999999A, 0x3FF0000000000000, 0x3FF0000000000000]);
+    assert_eq!((r.number, r.passes), (1, 200));
+    assert_eq!(asks(&mut state, &mut held, gave(&[0.5, 0.0]), 1), Err(Refused(20)));
+}
+
+#[test]
+fn answers_that_end_a_run() {
+    for (said, number) in
+        [(Said::Failed, 18), (Said::Halted, 15), (Said::Gave(&[1.0]), 16), (Said::Gave(&[1.0, f64::NAN]), 17), (Said::Gave(&[0.0; 2]), 19)]
+    {
+        let (mut state, mut held, mut scratch) = (State::default(), Held::default(), Scratch::of(2));
+        assert_eq!(open(&mut state, PART, GOAL, false, held.lend(1), &mut Work::of(2)), Ok(Reply::Solid));
+        let said = Answer { said, flag: false, elapsed: 0, allowed: 1 };
+        assert_eq!(answer(&mut state, said, PART, held.lend(1), &mut scratch), Err(Refused(number)));
+        assert_eq!(answer(&mut state, said, PART, held.lend(1), &mut scratch), Err(Refused(20)));
+    }
+}

@@ -1,0 +1,2 @@
+-- `Flat` has what the numbers of a run stand for.
+pub mod Flat
