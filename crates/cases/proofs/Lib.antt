@@ -1,0 +1,3 @@
+-- `Example` works 01's example out, `Cases` has the list.
+pub mod Example
+pub mod Cases
