@@ -1,6 +1,8 @@
 // Replays a recorded sample of the Rust's answers: reads it from standard input, works each case out with the library and compares.
 // docs/REPLAY.md has the format, and how the sample is made.
 mod leaves;
+mod products;
+mod read;
 mod words;
 
 use libc::STDOUT_FILENO;
@@ -24,6 +26,8 @@ fn case(function: u64) -> bool {
         11 => leaves::dist2_to_triangle(),
         12 => leaves::project(),
         13 => leaves::no_room(),
+        14 => products::apply(),
+        15 => products::back(),
         _ => false,
     }
 }
@@ -43,6 +47,8 @@ fn name(function: u64) {
         11 => io::write_all(STDOUT_FILENO, b"dist2_to_triangle"),
         12 => io::write_all(STDOUT_FILENO, b"project"),
         13 => io::write_all(STDOUT_FILENO, b"no_room"),
+        14 => io::write_all(STDOUT_FILENO, b"apply"),
+        15 => io::write_all(STDOUT_FILENO, b"back"),
         _ => io::write_all(STDOUT_FILENO, b"unknown"),
     }
     ;
