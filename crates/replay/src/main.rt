@@ -3,6 +3,7 @@
 mod leaves;
 mod products;
 mod read;
+mod updates;
 mod words;
 
 use libc::STDOUT_FILENO;
@@ -28,6 +29,7 @@ fn case(function: u64) -> bool {
         13 => leaves::no_room(),
         14 => products::apply(),
         15 => products::back(),
+        16 => updates::update(),
         _ => false,
     }
 }
@@ -49,6 +51,7 @@ fn name(function: u64) {
         13 => io::write_all(STDOUT_FILENO, b"no_room"),
         14 => io::write_all(STDOUT_FILENO, b"apply"),
         15 => io::write_all(STDOUT_FILENO, b"back"),
+        16 => io::write_all(STDOUT_FILENO, b"update"),
         _ => io::write_all(STDOUT_FILENO, b"unknown"),
     }
     ;

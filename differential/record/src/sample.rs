@@ -14,17 +14,16 @@ impl Words for u64 {
     }
 }
 
-impl Words for u16 {
-    fn put(&self, to: &mut Vec<u64>) {
-        to.push(u64::from(*self));
-    }
+macro_rules! as_words {
+    ($($t:ty),*) => {$(
+        impl Words for $t {
+            fn put(&self, to: &mut Vec<u64>) {
+                to.push(u64::from(*self));
+            }
+        }
+    )*};
 }
-
-impl Words for bool {
-    fn put(&self, to: &mut Vec<u64>) {
-        to.push(u64::from(*self));
-    }
-}
+as_words!(bool, u16, u32);
 
 /// 01: "all not-a-numbers as one".
 impl Words for f64 {
