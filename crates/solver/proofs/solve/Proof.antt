@@ -1,59 +1,67 @@
+-- `solve` meets its contract. Assumes nothing.
+use borrow.Author.Needs.{needs}
+use mathlib.Core.Path.{_≡_, refl, sym, ap, _∙_}
+use mathlib.Core.List.{List, _++_, append-nil}
+use Prim.Native.Nat.{ℕ, _-_, _≤_}
+use native.Mathlib.Omega.{arith}
+use native.Mathlib.Nat.{le-refl}
+use lib.ListN.{length}
+use lib.Seq.{drop-length}
+use Rattle.lists.specs.Lists.{tabulate, overwrite}
+use Rattle.lists.proofs.Laws.{overwrite-none, overwrite-more, overwrite-is}
+use Rattle.solver.specs.Energies.{energyAt, energiesOf}
 use Rattle.solver.proofs.solve.Statement.{statement}
 use Rattle.solver.proofs.solve.Tie as tie
-use Rattle.solver.proofs.solve.Reads as reads
-use Rattle.solver.proofs.solve.Lts as lts
-use Rattle.solver.proofs.energy.Reads as energy-reads
-use Rattle.solver.proofs.place.Reads as place-reads
+
+-- every place overwritten
+overwrite-all : {A : Type 0} (f : ℕ → A) (l : List A) → overwrite f (length l) l ≡ tabulate f (length l)
+overwrite-all f l = overwrite-is f (length l) l (le-refl (length l)) ∙ ap (λ (t : List _). tabulate f (length l) ++ t) (drop-length l) ∙ append-nil _
 
 abbrev Inv-loop : tie.InvT-loop
-Inv-loop weights density energies₀ e₀ energies e = ?
+Inv-loop weights density energies₀ e₀ energies e = (e ≤ length energies₀) × (length energies ≡ length energies₀) × (energies ≡ overwrite (energyAt weights density) e energies₀)
 
 abbrev μ-loop : tie.MeasureT-loop
-μ-loop weights density energies₀ e₀ energies e = ?
+μ-loop weights density energies₀ e₀ energies e = length energies₀ - e
 
--- src/lib.rt:28:5
 loop-holds : tie.Need-loop-holds Inv-loop μ-loop
-loop-holds c = ?
+loop-holds c = (search needs, refl, sym (overwrite-none _ _))
 
--- src/lib.rt:29:30
 place-requires : tie.Need-place-requires Inv-loop μ-loop
-place-requires c κs = ?
+place-requires c κs = search needs
 
--- src/lib.rt:29:49
 place-requires-2 : tie.Need-place-requires-2 Inv-loop μ-loop
-place-requires-2 c κs = ?
+place-requires-2 c κs = search needs
 
--- src/lib.rt:29:23
 energy-requires : tie.Need-energy-requires Inv-loop μ-loop
-energy-requires c κs = ?
+energy-requires c κs = search needs
 
--- src/lib.rt:29:9
 mul-energies : tie.Need-mul-energies Inv-loop μ-loop
-mul-energies c = ?
+mul-energies c = search needs
 
--- src/lib.rt:29:9
 slice-write-energies : tie.Need-slice-write-energies Inv-loop μ-loop
-slice-write-energies c = ?
+slice-write-energies c = search needs
 
--- src/lib.rt:30:9
 add-e : tie.Need-add-e Inv-loop μ-loop
-add-e c = ?
+add-e c = search needs
 
--- src/lib.rt:28:5
 loop-less : tie.Need-loop-less Inv-loop μ-loop
-loop-less c = ?
+loop-less c = search needs
 
--- src/lib.rt:28:5
 loop-again : tie.Need-loop-again Inv-loop μ-loop
-loop-again c = ?
+loop-again c =
+    (search needs, search needs, rw (c .before .before .before .before .loop .inv .2, c .energy .ensures, c .before .before .place .ensures, c .before .place2 .ensures) (overwrite-more _ _ _ (omega arith)))
 
--- src/lib.rt:24:1
 same-length : tie.Need-same-length Inv-loop μ-loop
-same-length c = ?
+same-length c = c .before .loop .inv .1
 
--- src/lib.rt:24:1
 returns : tie.Need-returns Inv-loop μ-loop
-returns c = ?
+unfolding energiesOf
+returns c =
+    let weights = c .before .before .before .before .before .args .weights .now in
+    let density = c .before .before .before .before .before .args .density .now in
+    let energies = c .before .before .before .before .before .args .energies .now in
+    let e : c .before .loop .e ≡ length energies = search needs in
+    c .before .loop .inv .2 ∙ ap (λ (k : ℕ). overwrite (energyAt weights density) k energies) e ∙ overwrite-all (energyAt weights density) energies
 
 pub solve-spec : {M : Type 1} → statement M
 solve-spec =
