@@ -1,6 +1,6 @@
 // filter.rs: the group of the planes of symmetry, and the filter's table built into three lent lists.
 mod entries;
-mod fill;
+pub mod fill;
 mod gather;
 mod grid;
 pub mod group;
@@ -9,4 +9,4 @@ mod rising;
 mod row;
 mod rows;
 mod walk;
-mod zero;
+pub mod zero;

@@ -31,14 +31,15 @@ module _ (o : Opening) where
   entry-last e f = ap (atFirst o) e ∙ ap (inRows o) f
 
   -- ---- what the tests before the rows say
-  record Passed : Type 0 where
-    middles : not (eqb (length (o .centroids)) (elements o)) ≡ false
-    some : eqb (elements o) 0 ≡ false
-    few : ltb 65535 (elements o) ≡ false
-    planes : ltb 3 (length (o .mirrors)) ≡ false
-    room : openShort (elements o) (o .goal .«max_iterations») (o .lent) ≡ false
+  pub record Passed : Type 0 where
+    pub middles : not (eqb (length (o .centroids)) (elements o)) ≡ false
+    pub marks : not (eqb (length (o .passive)) (elements o)) ≡ false
+    pub some : eqb (elements o) 0 ≡ false
+    pub few : ltb 65535 (elements o) ≡ false
+    pub planes : ltb 3 (length (o .mirrors)) ≡ false
+    pub room : openShort (elements o) (o .goal .«max_iterations») (o .lent) ≡ false
 
-  passed : firstRefusal o ≡ 0 → Passed
+  pub passed : firstRefusal o ≡ 0 → Passed
   unfolding firstRefusal
   passed e =
       let p1 = passes-on _ 1 _ (omega arith) e in
@@ -54,7 +55,8 @@ module _ (o : Opening) where
       let p11 = passes-on _ 11 _ (omega arith) (p10 .1) in
       let p12 = passes-on _ 12 _ (omega arith) (p11 .1) in
       let p14 = passes-on _ 14 _ (omega arith) (p12 .1) in
-      record { middles = neither (not (eqb (length (o .centroids)) (elements o))) _ (p1 .0) .0; some = p2 .0; few = p3 .0; planes = p10 .0; room = p14 .0 }
+      let d = neither (not (eqb (length (o .centroids)) (elements o))) _ (p1 .0) in
+      record { middles = d .0; marks = d .1; some = p2 .0; few = p3 .0; planes = p10 .0; room = p14 .0 }
 
 -- the lists that a build is lent have the lengths that the opening looked at
 pub record Same (o : Opening) (l : Lent) : Type 0 where
@@ -66,7 +68,7 @@ pub record Same (o : Opening) (l : Lent) : Type 0 where
 holds-not : (a b : Bool) → a ≡ false → b ≡ false → (a || b) ≡ false
 holds-not a b e f = λ i. e i || f i
 
-not-short : (k n : ℕ) (lengths needed : List ℕ) → short (k ∷ lengths) (n ∷ needed) ≡ false → (ltb k n ≡ false) × (short lengths needed ≡ false)
+pub not-short : (k n : ℕ) (lengths needed : List ℕ) → short (k ∷ lengths) (n ∷ needed) ≡ false → (ltb k n ≡ false) × (short lengths needed ≡ false)
 unfolding short
 not-short k n lengths needed e = neither _ _ e
 

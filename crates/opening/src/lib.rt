@@ -178,7 +178,7 @@ pub fn refusal(
 }
 
 // The solid question's densities, 1 for each of n elements.
-fn ask_solid(n: usize, density: &mut [f64])
+pub fn ask_solid(n: usize, density: &mut [f64])
     requires { ⌜ n ≤ length (now density) ⌝ }
     ensures { λ _. ⌜ now (density .exit) ≡ overwrite (λ _. one64) n (now (density .entry)) ⌝ }
 {
@@ -190,7 +190,7 @@ fn ask_solid(n: usize, density: &mut [f64])
 }
 
 // The first design, on the needed places.
-fn begin(goal: Goal, volumes: &[f64], passive: &[bool], design: &mut [f64])
+pub fn begin(goal: Goal, volumes: &[f64], passive: &[bool], design: &mut [f64])
     requires { ⌜ length (now passive) ≤ length (now design) ⌝ }
     ensures { λ _. ⌜ now (design .exit) ≡ startDesign (now (passive .entry)) (startDensity (solidVolume (now (volumes .entry)) (now (passive .entry))) (sumOf (now (volumes .entry))) (targetOf (goal .fraction) (sumOf (now (volumes .entry))))) ++ drop (length (now (passive .entry))) (now (design .entry)) ⌝ }
 {
@@ -203,7 +203,7 @@ fn begin(goal: Goal, volumes: &[f64], passive: &[bool], design: &mut [f64])
 }
 
 // The state of a run that is opened: it asks for the solid part.
-fn opened_state(goal: Goal, elements: usize, entries: usize) -> State
+pub fn opened_state(goal: Goal, elements: usize, entries: usize) -> State
     ensures { λ r. ⌜ r ≡ record { phase = Phase.Solid; elements = elements; entries = entries; fraction = goal .fraction; sharpen = goal .sharpen; «max_iterations» = goal .«max_iterations»; rounds = 0; stage = 0; «at_stage» = 0; steady = 0; «solid_compliance» = zero64; compliance = zero64 } ⌝ }
 {
     State {
