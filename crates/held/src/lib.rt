@@ -44,8 +44,26 @@ pub fn answer(
 {
     let mut held = history;
     let told = run::answer(
-        state, said, flag, elapsed, allowed, energies, volumes, passive, starts, near, coef, design,
-        density, last, &mut held, free, slope, spare, dc, dv,
+        state,
+        said,
+        flag,
+        elapsed,
+        allowed,
+        energies,
+        volumes,
+        passive,
+        starts,
+        near,
+        coef,
+        design,
+        density,
+        last,
+        &mut held,
+        free,
+        slope,
+        spare,
+        dc,
+        dv,
     );
     Turn {
         history: held,
