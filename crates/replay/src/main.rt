@@ -1,8 +1,10 @@
 // Replays a recorded sample of the Rust's answers: reads it from standard input, works each case out with the library and compares.
 // docs/REPLAY.md has the format, and how the sample is made.
 mod leaves;
+mod meshes;
 mod products;
 mod read;
+mod tables;
 mod updates;
 mod words;
 
@@ -30,6 +32,9 @@ fn case(function: u64) -> bool {
         14 => products::apply(),
         15 => products::back(),
         16 => updates::update(),
+        17 => meshes::tetrahedron(),
+        18 => tables::unmirrored(),
+        19 => tables::mirrored(),
         _ => false,
     }
 }
@@ -52,6 +57,9 @@ fn name(function: u64) {
         14 => io::write_all(STDOUT_FILENO, b"apply"),
         15 => io::write_all(STDOUT_FILENO, b"back"),
         16 => io::write_all(STDOUT_FILENO, b"update"),
+        17 => io::write_all(STDOUT_FILENO, b"tetrahedron"),
+        18 => io::write_all(STDOUT_FILENO, b"filter"),
+        19 => io::write_all(STDOUT_FILENO, b"filter of two planes"),
         _ => io::write_all(STDOUT_FILENO, b"unknown"),
     }
     ;

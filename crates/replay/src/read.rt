@@ -38,12 +38,40 @@ pub fn points(to: &mut [[f64; 3]]) {
     }
 }
 
+pub fn planes(to: &mut [[f64; 6]]) {
+    let mut i = 0usize;
+    while i < to.len() {
+        let x = number();
+        let y = number();
+        let z = number();
+        let a = number();
+        let b = number();
+        let c = number();
+        to[i] = [x, y, z, a, b, c];
+        i += 1usize;
+    }
+}
+
 // Whether the numbers that come are those of the list.
 pub fn are(list: &[f64]) -> bool {
     let mut all = true;
     let mut i = 0usize;
     while i < list.len() {
         all = all & same(list[i], number());
+        i += 1usize;
+    }
+    all
+}
+
+fn wide(x: u32) -> u64 {
+    x as u64
+}
+
+pub fn are_counts(list: &[u32]) -> bool {
+    let mut all = true;
+    let mut i = 0usize;
+    while i < list.len() {
+        all = all & (wide(list[i]) == word());
         i += 1usize;
     }
     all

@@ -62,9 +62,9 @@ fn whole(list: Vec<f64>) -> [f64; N] {
 
 pub fn all(s: &mut Sample) {
     let shares = |g: &mut Gen| (Table::random(g), floats(g, |g| if g.below(16) == 0 { g.float() } else { g.unit() }));
-    s.section(14, "apply", [], 60, shares, |(t, x)| whole(t.filter().apply(&x)));
-    s.section(15, "back", [], 60, shares, |(t, x)| whole(t.filter().back(&x)));
-    s.section(16, "update", [], 60, Job::random, Job::update);
+    s.section(14, "apply", [], 40, shares, |(t, x)| whole(t.filter().apply(&x)));
+    s.section(15, "back", [], 40, shares, |(t, x)| whole(t.filter().back(&x)));
+    s.section(16, "update", [], 50, Job::random, Job::update);
 }
 
 /// What an update is given.

@@ -2,6 +2,7 @@
 //! The same on every machine.
 mod leaves;
 mod lists;
+mod meshes;
 mod sample;
 
 // The generator and the edges that the comparison draws its inputs from.
@@ -15,5 +16,6 @@ fn main() -> io::Result<()> {
     let mut sample = sample::Sample::default();
     leaves::all(&mut sample);
     lists::all(&mut sample);
+    meshes::all(&mut sample);
     io::stdout().write_all(&sample.bytes())
 }
