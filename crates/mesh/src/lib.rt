@@ -151,7 +151,8 @@ pub fn outside(p: Vec3) -> bool
     !(ieee::abs(p.x) <= 1000000.0) | !(ieee::abs(p.y) <= 1000000.0) | !(ieee::abs(p.z) <= 1000000.0)
 }
 
-fn any_outside(nodes: &[[f64; 3]]) -> bool
+// Whether any node does. Internal: for `boundary` too.
+pub fn any_outside(nodes: &[[f64; 3]]) -> bool
     ensures { λ r. ⌜ r ≡ Mesh.nodesOutside (now (nodes .entry)) ⌝ }
 {
     let mut found = false;

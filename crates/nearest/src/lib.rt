@@ -1,0 +1,66 @@
+// The nearest triangle to a point by the tree of boxes (region.rs, `Tree::nearest`). Internal: for `asymmetry`.
+ghost use mathlib.Core.Path.{_≡_};
+ghost use Prim.Native.Nat.{_<_, _/_};
+ghost use mathlib.Core.List.{[]};
+ghost use lib.ListN.{length, getD};
+ghost use Rattle.tree.specs.Steps.{boundsAt, treeIn};
+ghost use Rattle.nearest.specs.Nearest as Nearest;
+ghost use Rattle.nearest.specs.Steps.{Searchable};
+use geom::Vec3;
+
+// The least square so far, and whether the search has stopped.
+pub struct Found {
+    pub best: f64,
+    pub stopped: bool,
+}
+
+// The square of the gap between a point and a box; 0 inside.
+pub fn gap(b: [f64; 6], p: Vec3) -> f64
+    ensures { λ r. ⌜ r ≡ Nearest.gapOf (boundsAt b) p ⌝ }
+{
+    let lo = Vec3::new(b[0], b[1], b[2]);
+    let hi = Vec3::new(b[3], b[4], b[5]);
+    lo.sub(p).max(p.sub(hi)).max(Vec3::new(0.0, 0.0, 0.0)).len2()
+}
+
+// The least square over the triangles of a leaf.
+fn least(faces: &[[f64; 9]], o: &[u32], p: Vec3, best: f64) -> f64
+    ensures { λ r. ⌜ r ≡ Nearest.leastOf (now (faces .entry)) p best (now (o .entry)) ⌝ }
+{
+    let mut b = best;
+    let mut i = 0;
+    while i < o.len() {
+        let t = tree::face_at(faces, o[i]);
+        b = ieee::min(b, faces::dist2_to_triangle(p, t.a, t.b, t.c));
+        i += 1;
+    }
+    b
+}
+
+// Searches the tree in o and b, whose own box is g away.
+pub fn seek(faces: &[[f64; 9]], o: &[u32], b: &[[f64; 6]], p: Vec3, enough: f64, g: f64, s: Found) -> Found
+    requires { ⌜ Searchable (now o) (now b) p g ⌝ }
+    ensures { λ r. ⌜ r ≡ Nearest.searchIn (now (faces .entry)) p enough (treeIn (now (o .entry)) (now (b .entry))) s ⌝ }
+{
+    if s.stopped | (g >= s.best) {
+        return s;
+    }
+    let n = o.len();
+    if n <= 4 {
+        let best = least(faces, o, p, s.best);
+        return Found {
+            best,
+            stopped: best <= enough,
+        };
+    }
+    let h = n / 2;
+    let k = (n - h) / 2;
+    let low = gap(b[h / 2], p);
+    let high = gap(b[h + k], p);
+    if low <= high {
+        let first = seek(faces, &o[..h], &b[..h], p, enough, low, s);
+        return seek(faces, &o[h..n], &b[h..n], p, enough, high, first);
+    }
+    let first = seek(faces, &o[h..n], &b[h..n], p, enough, high, s);
+    seek(faces, &o[..h], &b[..h], p, enough, low, first)
+}
