@@ -6,22 +6,22 @@ use Prim.Native.Nat.{ℕ, zero, suc, _+_, _<_, _≤_}
 use native.Mathlib.Numerals.{add-one}
 use native.Mathlib.Omega.{arith}
 use lib.ListN.{length, drop, getD, replicate, List·getD-append}
-use lib.Dec.{ltb, eqb}
+use lib.Dec.{eqb}
 use lib.Ieee.{Float}
-use borrow.Author.Tests.{ltb-true, ltb-false, eqb-true, ne-eqb, not-false}
-use Rattle.lists.specs.Lists.{tabulate, overwrite, choose, zero64}
+use borrow.Author.Tests.{ltb-false, eqb-true, ne-eqb, not-false}
+use Rattle.lists.specs.Lists.{tabulate, choose, zero64}
 use Rattle.lists.proofs.Laws.{neither, choose-false, length-tabulate, getD-tabulate, overwrite-is}
 use Rattle.ieee.specs.Basic.{one64}
 use Rattle.filter.specs.Filter.{start}
 use Rattle.filter.specs.Build.{Lent, Outcome, zeroed, built, numberOf, laid, left, Worked, outcome, Built}
 use Rattle.plain.specs.declared.Phase.the-variants.{Solid as SolidPhase}
 use Rattle.plain.specs.declared.State.{State}
-use Rattle.plain.specs.declared.Reply.the-variants.{Refused, Solid}
-use Rattle.plain.specs.declared.Entry.the-variants.{Kept, Zeroed, Shut, Opens}
-use Rattle.plain.specs.Lent.{overlay, short, openWork, openShort, runShort}
+use Rattle.plain.specs.declared.Reply.the-variants.{Refused}
+use Rattle.plain.specs.declared.Entry.the-variants.{Zeroed, Shut, Opens}
+use Rattle.plain.specs.Lent.{overlay, short, openShort, runShort}
 use Rattle.plain.specs.Formulas.{ones}
 use Rattle.plain.specs.Opening.{Opening, elements, startsOf, nearOf, coefOf, startOf, tableRefusal, firstRefusal, lastly, entryOf}
-use Rattle.plain.specs.Calls.{Asked, endedOf, inTurn, openedState}
+use Rattle.plain.specs.Calls.{Asked, endedOf, inTurn}
 use Rattle.plain.proofs.Formulas.{length-start}
 use Rattle.answering.specs.declared.Told.{Told}
 use Rattle.answering.specs.Answers.{Core}
