@@ -4,6 +4,7 @@ mod leaves;
 mod meshes;
 mod products;
 mod read;
+mod runs;
 mod tables;
 mod updates;
 mod words;
@@ -35,6 +36,8 @@ fn case(function: u64) -> bool {
         17 => meshes::tetrahedron(),
         18 => tables::unmirrored(),
         19 => tables::mirrored(),
+        20 => runs::unmirrored(),
+        21 => runs::mirrored(),
         _ => false,
     }
 }
@@ -60,6 +63,8 @@ fn name(function: u64) {
         17 => io::write_all(STDOUT_FILENO, b"tetrahedron"),
         18 => io::write_all(STDOUT_FILENO, b"filter"),
         19 => io::write_all(STDOUT_FILENO, b"filter of two planes"),
+        20 => io::write_all(STDOUT_FILENO, b"run"),
+        21 => io::write_all(STDOUT_FILENO, b"run of a plane"),
         _ => io::write_all(STDOUT_FILENO, b"unknown"),
     }
     ;

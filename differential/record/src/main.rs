@@ -3,6 +3,7 @@
 mod leaves;
 mod lists;
 mod meshes;
+mod runs;
 mod sample;
 
 // The generator and the edges that the comparison draws its inputs from.
@@ -17,5 +18,6 @@ fn main() -> io::Result<()> {
     leaves::all(&mut sample);
     lists::all(&mut sample);
     meshes::all(&mut sample);
+    runs::all(&mut sample);
     io::stdout().write_all(&sample.bytes())
 }
