@@ -82,7 +82,7 @@ impl<const PLANES: usize> Job<PLANES> {
                 Event::Bad,
                 Event::Idle,
             ]),
-            at: g.below(rounds + 1),
+            at: if g.below(3) == 0 { 0 } else { g.below(rounds + 1) },
             takes: 7,
             allowed: g.pick(&[1_000_000, 1_000_000, 50]),
         }
@@ -220,9 +220,17 @@ impl Words for Told {
 }
 
 pub fn all(s: &mut Sample) {
-    // One run goes through all five steepnesses.
-    let long = |g: &mut Gen| Job { rounds: 100, sharpen: true, event: Event::Nothing, allowed: 1_000_000, ..Job::random(g) };
-    let first = long(&mut Gen::of(1, "a long run"));
-    s.section(20, "run", [first], 39, Job::<0>::random, Job::run);
+    // Two runs go through all five steepnesses.
+    let long = |g: &mut Gen| Job {
+        passive: [false; ELEMENTS],
+        fraction: 0.5,
+        sharpen: true,
+        rounds: 100,
+        event: Event::Nothing,
+        allowed: 1_000_000,
+        ..Job::random(g)
+    };
+    let mut g = Gen::of(1, "long runs");
+    s.section(20, "run", [long(&mut g), long(&mut g)], 38, Job::<0>::random, Job::run);
     s.section(21, "run of a plane", [], 20, Job::<1>::random, Job::run);
 }
