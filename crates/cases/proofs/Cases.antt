@@ -19,6 +19,7 @@ use Rattle.geom.proofs.Cases.{image-in-x}
 use Rattle.faces.proofs.Cases.{above-a-corner, above-the-face}
 use Rattle.topo.proofs.Cases.{level-of-half, level-of-minus-three, level-of-seven}
 use Rattle.oc.proofs.Cases.{projection-ends}
+use Rattle.off_centre.proofs.Cases.{reaches-one-and-none, even-at-half}
 use Rattle.update.proofs.Cases.{nan-slope}
 use Rattle.cases.specs.Cases.{ProvedCases, OwnRows, twoFree}
 use Rattle.cases.proofs.Example.{worked-example}
@@ -46,4 +47,6 @@ proved-cases =
       aboveCorner = above-a-corner;
       aboveFace = above-the-face;
       imageInX = image-in-x;
+      reaches = reaches-one-and-none;
+      reachesNone = even-at-half;
     }

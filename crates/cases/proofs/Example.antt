@@ -1,5 +1,6 @@
 -- 01's worked example, worked out: antt computes the reading of the strip, and the run with the 200 passes of its update. Assumes nothing.
-use mathlib.Core.Path.{_≡_, _∙_, refl}
+use mathlib.Core.Path.{_≡_, _∙_, refl, ap}
+use mathlib.Core.List.{[], _∷_}
 use lib.Ieee as Ieee
 use Rattle.lists.specs.Lists as Lists
 use Rattle.ieee.specs.Basic as Basic
@@ -26,6 +27,9 @@ use Rattle.plain.specs.Plain as Plain
 use Rattle.strip.specs.declared.Answer.the-variants.{Read}
 use Rattle.strip.specs.Strip as Strip
 use Rattle.plain.proofs.Whole.{whole}
+use Rattle.topo.specs.declared.Stop.the-variants.{Limit}
+use Rattle.solver.specs.Energies as Energies
+use Rattle.report.specs.Report as Report
 use Rattle.cases.specs.Example as Example
 
 is-read : Strip.readStrip Example.strip Example.empty ≡ Strip.reading (Read Example.head) Example.full
@@ -38,8 +42,12 @@ opens = refl
 
 -- the work of the solid part, and what each call shows
 run-shown : (Plain.runFrom (Plain.plainStart Example.job) Example.answers .solidWork ≡ Basic.one64) × (Plain.plainRun Example.job Example.answers ≡ Example.shownRun)
-unfolding Plain.plainRun Opening.entryOf Opening.firstRefusal Lists.choose Lists.anyTo Ieee.lt Ieee.ofBits Ieee.le Ieee.mul Formulas.sumOf Lists.sumTo Ieee.add Start.solidVolume Ieee.sub Basic.absOf Group.planesBad Group.planesSkew Lent.openShort Lent.runShort Lent.short Opening.tableRefusal Build.rowsRefusal Group.imageIn Vectors.least Basic.minOf Ieee.isNan Vectors.greatest Basic.maxOf Cells.nearby Whole.floorAt Ieee.div Vectors.len Sqrt.sqrtOf Vectors.len2 Vectors.dot Vectors.less Formulas.ones Plain.plainFrom Lists.tabulate Opening.startOf Start.startDesign Plain.answered Plain.judged Plain.checksOf Lent.answerShort Example.solvedBy Opening.nearOf Formulas.notFinite Basic.isFinite Example.energyOf Levels.modulusOf Ieee.ofInt Levels.levelOf Whole.roundHalfAway Basic.clampOf Formulas.idle Record.complianceOf Formulas.see Seen.seenDensity Seen.densities Opening.caseOf Seen.elementDensity Seen.sharpened Table.applied Table.rowSum Lists.sumOver Table.rowEnd Opening.startsOf Opening.coefOf Filter.coefficients Table.product Plain.firstStop Plain.sharpest Formulas.small Formulas.recordAt Record.changeOf Formulas.updateAt Update.updated Update.whileTo Update.raisedAll Update.raises Update.first Update.reckoned Kept.keptOf Record.dot Slopes.straightSlope Table.backed Start.freeVolumes Table.rowShare Table.addTo Update.trial Design.designAt Design.nextOf Design.limited Design.grown Design.gainsOf Slopes.workSlope Design.gainOf Slopes.workByDensity Slopes.elementWork Seen.seenSlope Seen.slopes Seen.elementSlope Seen.sharpenedSlope Update.halves Update.middle Update.firstRate Design.mostOf Update.halved Plain.steadyRun Plain.levelWith Record.fractionOf Record.greyOf Plain.runFrom Filter.neighbours Filter.start
+unfolding Plain.plainRun Opening.entryOf Opening.firstRefusal Lists.choose Lists.anyTo Ieee.lt Ieee.ofBits Ieee.le Ieee.mul Formulas.sumOf Lists.sumTo Ieee.add Start.solidVolume Ieee.sub Basic.absOf Group.planesBad Group.planesSkew Lent.openShort Lent.runShort Lent.short Opening.tableRefusal Build.rowsRefusal Group.imageIn Vectors.least Basic.minOf Ieee.isNan Vectors.greatest Basic.maxOf Cells.nearby Whole.floorAt Ieee.div Vectors.len Sqrt.sqrtOf Vectors.len2 Vectors.dot Vectors.less Formulas.ones Plain.plainFrom Lists.tabulate Opening.startOf Start.startDesign Plain.answered Plain.judged Plain.checksOf Lent.answerShort Example.solvedBy Opening.nearOf Formulas.notFinite Basic.isFinite Energies.energyOf Energies.energiesOf Levels.modulusOf Ieee.ofInt Levels.levelOf Whole.roundHalfAway Basic.clampOf Formulas.idle Record.complianceOf Formulas.see Seen.seenDensity Seen.densities Opening.caseOf Seen.elementDensity Seen.sharpened Table.applied Table.rowSum Lists.sumOver Table.rowEnd Opening.startsOf Opening.coefOf Filter.coefficients Table.product Plain.firstStop Plain.sharpest Formulas.small Formulas.recordAt Record.changeOf Formulas.updateAt Update.updated Update.whileTo Update.raisedAll Update.raises Update.first Update.reckoned Kept.keptOf Record.dot Slopes.straightSlope Table.backed Start.freeVolumes Table.rowShare Table.addTo Update.trial Design.designAt Design.nextOf Design.limited Design.grown Design.gainsOf Slopes.workSlope Design.gainOf Slopes.workByDensity Slopes.elementWork Seen.seenSlope Seen.slopes Seen.elementSlope Seen.sharpenedSlope Update.halves Update.middle Update.firstRate Design.mostOf Update.halved Plain.steadyRun Plain.levelWith Record.fractionOf Record.greyOf Plain.runFrom Filter.neighbours Filter.start
 run-shown = (refl, refl)
+
+printed : Report.textOf (Report.ran Basic.one64 (Example.firstRound ∷ []) Limit Example.firstAsked) ≡ Report.ascii Example.lines
+unfolding Report.ascii Report.textOf Report.solidLine Report.hex Lists.choose Report.linesFrom Ieee.toBits Report.roundLine Ieee.ofBits Report.decimal Report.decimalIn Report.stopLine Report.elementLine
+printed = refl
 
 pub worked-example : Example.WorkedExample
 worked-example =
@@ -48,5 +56,6 @@ worked-example =
       opens = opens;
       solidWork = run-shown .0;
       shows = run-shown .1;
+      prints = ap (λ w. Report.textOf (Report.ran w (Example.firstRound ∷ []) Limit Example.firstAsked)) (run-shown .0) ∙ printed;
       calls = λ w k g more idle o a. whole w k g more idle ∙ (λ i. Plain.plainRun (o i) (a i)) ∙ run-shown .1;
     }

@@ -1,7 +1,7 @@
 -- 01, "Proved cases": all of them, in its order, over the definitions that the contracts cite. Definitions only.
 use mathlib.Core.Path.{_≡_}
 use mathlib.Core.Bool.{false}
-use mathlib.Core.List.{[], _∷_}
+use mathlib.Core.List.{List, [], _∷_}
 use Prim.Native.Nat.{ℕ, _<_}
 use lib.ListN.{getD}
 use lib.Ieee.{Float, nan, binary64, neg, ofBits}
@@ -15,16 +15,22 @@ use Rattle.faces.specs.Triangle.{dist2ToTriangle}
 use Rattle.topo.specs.Levels.{levelOf}
 use Rattle.oc.specs.Project.{half, stages, projected}
 use Rattle.update.specs.Design.{gainOf, nextOf}
+use Rattle.off_centre.specs.OffCentre.{offCentreOf}
+use Rattle.off_centre.specs.declared.Balance.the-variants.{Even, Reaches}
 use Rattle.plain.specs.declared.Entry.the-variants.{Kept}
 use Rattle.plain.specs.Opening.{Opening, startsOf, nearOf, coefOf, entryOf}
 use Rattle.cases.specs.Example.{WorkedExample, room}
+
+-- points at x = 0 and 1
+abbrev pub twoPoints : List (List Float)
+twoPoints = (zero64 ∷ zero64 ∷ zero64 ∷ []) ∷ (one64 ∷ zero64 ∷ zero64 ∷ []) ∷ []
 
 -- two elements of volume 1, nothing held, middles 1 apart, radius 1, and a share
 abbrev pub twoFree : Float → Opening
 twoFree share =
     record {
       volumes = one64 ∷ one64 ∷ [];
-      centroids = (zero64 ∷ zero64 ∷ zero64 ∷ []) ∷ (one64 ∷ zero64 ∷ zero64 ∷ []) ∷ [];
+      centroids = twoPoints;
       passive = false ∷ false ∷ [];
       mirrors = [];
       goal = record { fraction = share; radius = one64; sharpen = false; «max_iterations» = 1 };
@@ -42,9 +48,9 @@ pub record OwnRows (o : Opening) : Type 0 where
 abbrev pub toTriangle : Vec3 → Float
 toTriangle p = dist2ToTriangle p (vec zero64 zero64 zero64) (vec one64 zero64 zero64) (vec zero64 one64 zero64)
 
--- "plane x = 0"
-abbrev pub planeX : Mirror
-planeX = record { point = vec zero64 zero64 zero64; normal = vec one64 zero64 zero64 }
+-- the plane x = v
+abbrev pub planeAt : Float → Mirror
+planeAt v = record { point = vec v zero64 zero64; normal = vec one64 zero64 zero64 }
 
 pub record ProvedCases : Type 0 where
   -- "this one"
@@ -66,4 +72,7 @@ pub record ProvedCases : Type 0 where
   pub aboveCorner : toTriangle (vec zero64 zero64 two64) ≡ ofBits binary64 0x4010_0000_0000_0000
   pub aboveFace : toTriangle (vec (ofBits binary64 0x3fd0_0000_0000_0000) (ofBits binary64 0x3fd0_0000_0000_0000) one64) ≡ one64
   -- "(2,0,0) in plane x = 0: (−2,0,0)"
-  pub imageInX : image planeX (vec two64 zero64 zero64) ≡ vec (neg two64) zero64 zero64
+  pub imageInX : image (planeAt zero64) (vec two64 zero64 zero64) ≡ vec (neg two64) zero64 zero64
+  -- "points at x = 0 and 1, plane x = 0: reaches 1 and 0, at 0.5 none": both zeros count as one
+  pub reaches : offCentreOf twoPoints (planeAt zero64) ≡ Reaches one64 (neg zero64)
+  pub reachesNone : offCentreOf twoPoints (planeAt half) ≡ Even

@@ -3,15 +3,16 @@ use mathlib.Core.Path.{_≡_}
 use mathlib.Core.Bool.{true, false}
 use mathlib.Core.List.{List, [], _∷_, map}
 use Prim.Native.Nat.{ℕ, _/_, _%_}
-use lib.ListN.{length, getD, take, replicate}
-use lib.Ieee.{Float, nan, binary64, mul, div, ofBits}
-use Rattle.lists.specs.Lists.{tabulate, zero64}
+use Prim.Native.String.{String}
+use lib.ListN.{length, take, replicate}
+use lib.Ieee.{Float, binary64, ofBits}
+use Rattle.lists.specs.Lists.{zero64}
 use Rattle.ieee.specs.Basic.{one64}
-use Rattle.topo.specs.Levels.{levelOf, modulusOf}
 use Rattle.topo.specs.declared.Iteration.{Iteration}
 use Rattle.topo.specs.declared.Stop.the-variants.{Limit}
 use Rattle.oc.specs.Project.{half}
-use Rattle.oc.specs.Record.{two64}
+use Rattle.solver.specs.Energies.{energiesOf}
+use Rattle.report.specs.Report.{ascii, ran, textOf}
 use Rattle.strip.specs.declared.Answer.the-variants.{Read}
 use Rattle.strip.specs.declared.Job.{Job}
 use Rattle.strip.specs.Strip.{Lists, lent, reading, readStrip}
@@ -83,16 +84,12 @@ openingFrom j l =
       lent = room (256 ∷ 256 ∷ 257 ∷ 256 ∷ 256 ∷ 256 ∷ 256 ∷ 1040 ∷ []);
     }
 
--- "solves by energy = weight/(2·modulus(level, 1))", the level that of the density asked with
-unfoldable pub energyOf : Float → Float → Float
-energyOf weight density = div binary64 weight (mul binary64 two64 (modulusOf (levelOf density) one64))
-
--- "never stopping or running out of time"
+-- "solves by energy = weight/(2·modulus(level, 1)), never stopping or running out of time": an answer to the densities asked with
 unfoldable pub solvedBy : List Float → List Float → Answer
 solvedBy weights densities =
     record {
       said = Gave;
-      energies = tabulate (λ e. energyOf (getD weights e nan) (getD densities e nan)) (length weights);
+      energies = energiesOf weights densities (length weights);
       flag = false;
       elapsed = 0;
       allowed = 1;
@@ -140,19 +137,24 @@ firstRound =
 abbrev pub updatedDesign : List Float
 updatedDesign = one64 ∷ ofBits binary64 0x3fd3_3333_3333_3333 ∷ []
 
--- what each call shows: the solid part is asked for, then round 1; then "stop Limit", "1 3FF0000000000000", "2 3FE0000000000000"
+-- what each call shows: the solid part is asked for, then round 1; then it stops, with the densities of round 1
 abbrev pub shownRun : List Seen
 shownRun =
     record { out = asks solid solidAsked; left = shown [] firstAsked }
     ∷ record { out = asks (round 1) firstAsked; left = shown [] firstAsked }
-    ∷ record { out = stops Limit (ofBits binary64 0x3ff0_0000_0000_0000 ∷ ofBits binary64 0x3fe0_0000_0000_0000 ∷ []); left = shown (firstRound ∷ []) updatedDesign }
+    ∷ record { out = stops Limit firstAsked; left = shown (firstRound ∷ []) updatedDesign }
     ∷ []
 
--- the strip is read, is this job, and its run shows what 01 prints, "solid 3FF0000000000000" first; so does every run of the calls with this opening and
--- these answers, on a state with no run open
+-- "Printed: solid work; round with work, share, change, steepness, grey, reckonings; stop; element (from 1) and density bits."
+abbrev pub lines : String
+lines = "solid 3FF0000000000000\nround 1 3FF0000000000000 3FE8000000000000 3FC999999999999A 3FF0000000000000 3FF0000000000000 200\nstop Limit\n1 3FF0000000000000\n2 3FE0000000000000\n"
+
+-- the strip is read, is this job, its run shows this, and so much is printed; every run of the calls with this opening and these answers, on a state with
+-- no run open, shows the same
 pub record WorkedExample : Type 0 where
   pub read : readStrip strip empty ≡ reading (Read head) full
   pub opens : openingFrom head full ≡ job
   pub solidWork : runFrom (plainStart job) answers .solidWork ≡ ofBits binary64 0x3ff0_0000_0000_0000
   pub shows : plainRun job answers ≡ shownRun
+  pub prints : textOf (ran (runFrom (plainStart job) answers .solidWork) (firstRound ∷ []) Limit firstAsked) ≡ ascii lines
   pub calls : (w : World) (k : Sizes) (g : Asked) (more : List Call) → NoRun (w .state) → openingOf g (k .work) (lend k (w .lists)) ≡ job → map (fed (w .lists)) more ≡ answers → callsRun w k g more ≡ shownRun

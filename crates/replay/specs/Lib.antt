@@ -1,0 +1,2 @@
+-- `Same` says when two answers are the same.
+pub mod Same

@@ -1,0 +1,316 @@
+// One case of a whole run, of 8 elements: volumes, middles, marks, the planes, the goal, and what the opening replied; then for each question the levels
+// asked for, the solver's answer, the record that was made and the reply; and of a run that stopped the solid part's work and the densities.
+use crate::read::are;
+use crate::read::flags;
+use crate::read::floats;
+use crate::read::planes;
+use crate::read::points;
+use crate::words::number;
+use crate::words::same;
+use crate::words::word;
+use answering::Told;
+use plain::Phase;
+use plain::Reply;
+use plain::Said;
+use plain::State;
+use topo::Goal;
+use topo::Iteration;
+use topo::Stop;
+
+// The records that a run may make, and more turns than it takes.
+const ROOM: usize = 120;
+
+const TURNS: u64 = 122;
+
+// What the last call gave, whether a question was recorded then, and whether all was as recorded so far.
+struct Progress {
+    told: Told,
+    asked: bool,
+    same: bool,
+}
+
+// No run is open.
+fn fresh() -> State {
+    State {
+        phase: Phase::Idle,
+        elements: 0,
+        entries: 0,
+        fraction: 0.0,
+        sharpen: false,
+        max_iterations: 0,
+        rounds: 0,
+        stage: 0,
+        at_stage: 0,
+        steady: 0,
+        solid_compliance: 0.0,
+        compliance: 0.0,
+    }
+}
+
+fn said(n: u64) -> Said {
+    match n {
+        0 => Said::Gave,
+        1 => Said::Failed,
+        _ => Said::Halted,
+    }
+}
+
+fn stop_number(why: Stop) -> u64 {
+    match why {
+        Stop::Settled => 0,
+        Stop::LevelledOff => 1,
+        Stop::Limit => 2,
+        Stop::Budget => 3,
+        Stop::Stopped => 4,
+    }
+}
+
+// A reply as recorded: 0 refused, with the number; 1 the solid part; 2 a round, with its number; 3 a stop, with its number.
+fn is_reply(reply: Reply, kind: u64, n: u64) -> bool {
+    match reply {
+        Reply::Refused(k) => (kind == 0) & (k as u64 == n),
+        Reply::Solid => kind == 1,
+        Reply::Round(k) => (kind == 2) & (k as u64 == n),
+        Reply::Stop(why) => (kind == 3) & (stop_number(why) == n),
+    }
+}
+
+fn replied(told: Told, so_far: bool) -> Progress {
+    let kind = word();
+    let n = word();
+    let reply = told.reply;
+    Progress {
+        told,
+        asked: (kind == 1) | (kind == 2),
+        same: so_far & is_reply(reply, kind, n),
+    }
+}
+
+// The record that an answer made, at its place, or none.
+fn is_record(at: usize, r: Iteration) -> bool {
+    let made = word() != 0;
+    if made {
+        let n = word();
+        let compliance = same(r.compliance, number());
+        let fraction = same(r.fraction, number());
+        let change = same(r.change, number());
+        let sharpness = same(r.sharpness, number());
+        let grey = same(r.grey, number());
+        let passes = word();
+        return (r.number as u64 == n)
+            & ((at as u64) < n)
+            & compliance
+            & fraction
+            & change
+            & sharpness
+            & grey
+            & (r.passes as u64 == passes);
+    }
+    at >= ROOM
+}
+
+// Whether the levels that come are those of the densities.
+fn are_levels(density: &[f64]) -> bool {
+    let mut all = true;
+    let mut i = 0usize;
+    while i < density.len() {
+        all = all & (topo::level_of(density[i]) as u64 == word());
+        i += 1usize;
+    }
+    all
+}
+
+fn opened(
+    goal: Goal,
+    volumes: &[f64],
+    centroids: &[[f64; 3]],
+    passive: &[bool],
+    mirrors: &[[f64; 6]],
+    starts: &mut [u32],
+    near: &mut [u32],
+    coef: &mut [f64],
+    design: &mut [f64],
+    density: &mut [f64],
+    last: &[f64],
+) -> Told {
+    let mut cell = [[0u64; 3]; 8];
+    let mut order = [0u32; 8];
+    let mut first = [0u32; 9];
+    let mut sorted = [[0.0; 3]; 8];
+    let mut stamp = [0u32; 8];
+    let mut weight = [0.0; 8];
+    let mut found = [0u32; 8];
+    let mut bits = [0u64; 1040];
+    opens::take(
+        ROOM,
+        fresh(),
+        goal,
+        false,
+        volumes,
+        centroids,
+        passive,
+        mirrors,
+        starts,
+        near,
+        coef,
+        design,
+        density,
+        last,
+        &mut cell,
+        &mut order,
+        &mut first,
+        &mut sorted,
+        &mut stamp,
+        &mut weight,
+        &mut found,
+        &mut bits,
+    )
+}
+
+// The next question and its answer, if one was recorded.
+fn turn(
+    t: Progress,
+    volumes: &[f64],
+    passive: &[bool],
+    starts: &[u32],
+    near: &[u32],
+    coef: &[f64],
+    design: &mut [f64],
+    density: &mut [f64],
+    last: &mut [f64],
+) -> Progress {
+    let asked = t.asked;
+    if !asked {
+        return t;
+    }
+    let levels = are_levels(&density[..]);
+    let said = said(word());
+    let flag = word() != 0;
+    let elapsed = word();
+    let allowed = word();
+    let mut energies = [0.0; 8];
+    let mut free = [0.0; 8];
+    let mut slope = [0.0; 8];
+    let mut spare = [0.0; 8];
+    let mut dc = [0.0; 8];
+    let mut dv = [0.0; 8];
+    floats(&mut energies);
+    let told = t.told;
+    let s = answering::take(
+        ROOM,
+        told.state,
+        said,
+        flag,
+        elapsed,
+        allowed,
+        &energies,
+        volumes,
+        passive,
+        starts,
+        near,
+        coef,
+        design,
+        density,
+        last,
+        &mut free,
+        &mut slope,
+        &mut spare,
+        &mut dc,
+        &mut dv,
+    );
+    let entry = s.entry;
+    let record = is_record(s.at, entry);
+    let next = s.told;
+    replied(next, t.same & levels & record)
+}
+
+// The end of a run that stopped.
+fn is_end(t: Progress, last: &[f64]) -> bool {
+    let stopped = word() != 0;
+    if stopped {
+        let told = t.told;
+        let state = told.state;
+        let work = same(state.solid_compliance, number());
+        return t.same & work & are(last);
+    }
+    t.same
+}
+
+fn run(
+    goal: Goal,
+    volumes: &[f64],
+    centroids: &[[f64; 3]],
+    passive: &[bool],
+    mirrors: &[[f64; 6]],
+) -> bool {
+    let mut starts = [0u32; 9];
+    let mut near = [0u32; 64];
+    let mut coef = [0.0; 64];
+    let mut design = [0.0; 8];
+    let mut density = [0.0; 8];
+    let mut last = [0.0; 8];
+    let told = opened(
+        goal,
+        volumes,
+        centroids,
+        passive,
+        mirrors,
+        &mut starts,
+        &mut near,
+        &mut coef,
+        &mut design,
+        &mut density,
+        &last,
+    );
+    let mut t = replied(told, true);
+    for _i in 0..TURNS {
+        t = turn(
+            t,
+            volumes,
+            passive,
+            &starts,
+            &near,
+            &coef,
+            &mut design,
+            &mut density,
+            &mut last,
+        );
+    }
+    is_end(t, &last)
+}
+
+fn goal() -> Goal {
+    let fraction = number();
+    let radius = number();
+    let sharpen = word() != 0;
+    let max_iterations = (word() % 1000) as usize;
+    Goal {
+        fraction,
+        radius,
+        sharpen,
+        max_iterations,
+    }
+}
+
+pub fn unmirrored() -> bool {
+    let mut volumes = [0.0; 8];
+    let mut centroids = [[0.0; 3]; 8];
+    let mut passive = [false; 8];
+    floats(&mut volumes);
+    points(&mut centroids);
+    flags(&mut passive);
+    let none = [[0.0; 6]; 0];
+    run(goal(), &volumes, &centroids, &passive, &none)
+}
+
+pub fn mirrored() -> bool {
+    let mut volumes = [0.0; 8];
+    let mut centroids = [[0.0; 3]; 8];
+    let mut passive = [false; 8];
+    let mut one = [[0.0; 6]; 1];
+    floats(&mut volumes);
+    points(&mut centroids);
+    flags(&mut passive);
+    planes(&mut one);
+    run(goal(), &volumes, &centroids, &passive, &one)
+}

@@ -1,0 +1,2 @@
+-- `Energies` has the solver of program `shape`.
+pub mod Energies
