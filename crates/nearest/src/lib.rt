@@ -20,7 +20,10 @@ pub fn gap(b: [f64; 6], p: Vec3) -> f64
 {
     let lo = Vec3::new(b[0], b[1], b[2]);
     let hi = Vec3::new(b[3], b[4], b[5]);
-    lo.sub(p).max(p.sub(hi)).max(Vec3::new(0.0, 0.0, 0.0)).len2()
+    lo.sub(p)
+        .max(p.sub(hi))
+        .max(Vec3::new(0.0, 0.0, 0.0))
+        .len2()
 }
 
 // The least square over the triangles of a leaf.
@@ -38,7 +41,15 @@ fn least(faces: &[[f64; 9]], o: &[u32], p: Vec3, best: f64) -> f64
 }
 
 // Searches the tree in o and b, whose own box is g away.
-pub fn seek(faces: &[[f64; 9]], o: &[u32], b: &[[f64; 6]], p: Vec3, enough: f64, g: f64, s: Found) -> Found
+pub fn seek(
+    faces: &[[f64; 9]],
+    o: &[u32],
+    b: &[[f64; 6]],
+    p: Vec3,
+    enough: f64,
+    g: f64,
+    s: Found,
+) -> Found
     requires { ⌜ Searchable (now o) (now b) p g ⌝ }
     ensures { λ r. ⌜ r ≡ Nearest.searchIn (now (faces .entry)) p enough (treeIn (now (o .entry)) (now (b .entry))) s ⌝ }
 {
@@ -59,8 +70,14 @@ pub fn seek(faces: &[[f64; 9]], o: &[u32], b: &[[f64; 6]], p: Vec3, enough: f64,
     let high = gap(b[h + k], p);
     if low <= high {
         let first = seek(faces, &o[..h], &b[..h], p, enough, low, s);
+        if first.stopped | (high >= first.best) {
+            return first;
+        }
         return seek(faces, &o[h..n], &b[h..n], p, enough, high, first);
     }
     let first = seek(faces, &o[h..n], &b[h..n], p, enough, high, s);
+    if first.stopped | (low >= first.best) {
+        return first;
+    }
     seek(faces, &o[..h], &b[..h], p, enough, low, first)
 }

@@ -122,6 +122,14 @@ pub fn build(
     }
     sort_along(axis(b), kx, ky, kz, order, scratch);
     build(faces, kx, ky, kz, &mut order[..h], scratch, &mut boxes[..h]);
-    build(faces, kx, ky, kz, &mut order[h..n], scratch, &mut boxes[h..n]);
+    build(
+        faces,
+        kx,
+        ky,
+        kz,
+        &mut order[h..n],
+        scratch,
+        &mut boxes[h..n],
+    );
     boxes[h] = [b.lo.x, b.lo.y, b.lo.z, b.hi.x, b.hi.y, b.hi.z];
 }

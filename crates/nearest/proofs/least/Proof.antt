@@ -46,8 +46,8 @@ loop-again c = let a = c .before .before .before .before .before .before .before
     let e = c .min .ensures ∙ ap (minOf (l .b)) (c .before .dist2-to-triangle .ensures ∙ ap (dist2To (a .p)) (c .before .before .face-at .ensures)) in (
       omega (arith, c .before .before .before .before),
       ap (λ (x : Float). leastOf (a .faces .now) (a .p) x (drop (l .i + 1) (a .o .now))) e
-      ∙ least-more (a .faces .now) (a .p) (a .o .now) (l .i) (l .b) (omega (arith, c .before .before .before .before))
-      ∙ l .inv .1,
+          ∙ least-more (a .faces .now) (a .p) (a .o .now) (l .i) (l .b) (omega (arith, c .before .before .before .before))
+          ∙ l .inv .1,
     )
 
 returns : tie.Need-returns Inv-loop μ-loop

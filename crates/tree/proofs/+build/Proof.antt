@@ -530,12 +530,12 @@ build-returns-2 t c = let a = c .before .before .before .before .before .before 
     let upper = q .ensures ∙ ap (λ (l : List ℕ). treeOf faces (length l) l) backO in
     (λ i. treeIn (two-is S O₁ h (n - h) leS keptO toS O₂ i) (set (two-is (a .boxes .now) B₁ h (n - h) leB keptB toB B₂ i) h (stored (box i))))
     ∙ builds-fork faces (a .order .now) S O₁ O₂ B₁ B₂ more eS
-      (front-length S O₁ h (n - h) leS keptO toS)
-      (front-length (a .boxes .now) B₁ h (n - h) leB keptB toB)
-      (q .kept .1 .1 .1 .1 .0 ∙ back-length S O₁ h (n - h) leS keptO toS)
-      (q .kept .1 .1 .1 .1 .1 .1 .0 ∙ back-length (a .boxes .now) B₁ h (n - h) leB keptB toB)
-      (p .ensures)
-      upper
+    (front-length S O₁ h (n - h) leS keptO toS)
+    (front-length (a .boxes .now) B₁ h (n - h) leB keptB toB)
+    (q .kept .1 .1 .1 .1 .0 ∙ back-length S O₁ h (n - h) leS keptO toS)
+    (q .kept .1 .1 .1 .1 .1 .1 .0 ∙ back-length (a .boxes .now) B₁ h (n - h) leB keptB toB)
+    (p .ensures)
+    upper
 
 pub +build-spec : {M : Type 1} → statement M
 +build-spec = close μ-build λ t. build-lts.spec (

@@ -50,8 +50,8 @@ loop-again c = let a = c .before .before .before .before .before .before .before
     let e = c .widened .ensures ∙ ap (widened (l .b)) (c .before .face-at .ensures) in (
       omega (arith, c .before .before .before),
       ap (λ (x : Bounds). boundsFrom (a .faces .now) x (drop (l .i + 1) (a .order .now))) e
-      ∙ widened-more (a .faces .now) (a .order .now) (l .i) (l .b) (omega (arith, c .before .before .before))
-      ∙ l .inv .1,
+          ∙ widened-more (a .faces .now) (a .order .now) (l .i) (l .b) (omega (arith, c .before .before .before))
+          ∙ l .inv .1,
     )
 
 returns : tie.Need-returns Inv-loop μ-loop
