@@ -40,7 +40,10 @@ pub fn farthest(
     while k < nodes.len() {
         if seen[k] {
             let p = mirror.image(mesh::point(nodes[k]));
-            worst = ieee::max(worst, ieee::root::sqrt(near(faces, order, boxes, p, worst * worst)));
+            worst = ieee::max(
+                worst,
+                ieee::root::sqrt(near(faces, order, boxes, p, worst * worst)),
+            );
             k += 1;
         } else {
             k += 1;

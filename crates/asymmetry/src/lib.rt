@@ -1,6 +1,6 @@
 // How far a part's boundary is from its image in a plane (region.rs, `asymmetry`).
-pub mod fill;
 pub mod far;
+pub mod fill;
 
 ghost use mathlib.Core.Path.{_≡_};
 ghost use Rattle.asymmetry.specs.Asymmetry as Spec;
@@ -16,7 +16,11 @@ pub enum Distance {
 fn refusal(nodes: &[[f64; 3]], tris: &[[u32; 6]], mirror: Mirror, short: bool) -> u32
     ensures { λ r. ⌜ r ≡ Spec.refusalOf (now (nodes .entry)) (now (tris .entry)) mirror short ⌝ }
 {
-    let rest = lists::first(off_centre::plane_bad(mirror), 11, lists::first(short, 14, 0));
+    let rest = lists::first(
+        off_centre::plane_bad(mirror),
+        11,
+        lists::first(short, 14, 0),
+    );
     boundary::refusal(0, nodes, tris, rest)
 }
 

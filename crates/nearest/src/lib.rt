@@ -70,8 +70,14 @@ pub fn seek(
     let high = gap(b[h + k], p);
     if low <= high {
         let first = seek(faces, &o[..h], &b[..h], p, enough, low, s);
+        if first.stopped | (high >= first.best) {
+            return first;
+        }
         return seek(faces, &o[h..n], &b[h..n], p, enough, high, first);
     }
     let first = seek(faces, &o[h..n], &b[h..n], p, enough, high, s);
+    if first.stopped | (low >= first.best) {
+        return first;
+    }
     seek(faces, &o[..h], &b[..h], p, enough, low, first)
 }

@@ -5,7 +5,7 @@ use mathlib.Core.List.{List, []}
 use Prim.Native.Nat.{_/_, ℕ, _<_}
 use native.Mathlib.Omega.{arith}
 use lib.Ieee.{Float, le}
-use lib.ListN.{length, getD, take, length-drop}
+use lib.ListN.{length, getD, take, drop, length-drop}
 use lib.Seq.{length-take-le}
 use Rattle.tree.specs.Steps.{boundsAt, treeIn}
 use Rattle.nearest.specs.Nearest.{gapOf, atLeaf, searchIn}
@@ -187,6 +187,27 @@ seek-seek-requires t c κs = let a = c .before .before .before .before .before .
       },
     )
 
+seek-returns-3 : (t : ℕ) → seek-lts.Need-returns-3 (
+  least-reads.Asked,
+  least-reads.Learnt,
+  gap-reads.Asked,
+  gap-reads.Learnt,
+  seek-below t,
+  seek.Post,
+) (seek-at t) seek.Post
+seek-returns-3 t c = let a = c .before .before .before .before .before .before .before .before .before .before .before .before .before .before .before .before .args in
+    let o = a .o .now in
+    let b = a .b .now in
+    let n = length o in
+    let h = n / 2 in
+    let more : 4 < n = omega (arith, c .before .before .before .before .before .before .before .before .before .before .before .if2) in
+    let test = sym (λ i. a .s .stopped || le (a .s .best) (c .before .before .before .before .before .before .before .before .before .before .before .before .before .before .before .before .pre .1 .away i)) ∙ c .before .before .before .before .before .before .before .before .before .before .before .before .if1 .left in
+    let first = c .before .before .before .seek .result in
+    let far = c .before .before .before .before .before .before .before .gap2 .ensures ∙ ap (λ (v : List Float). gapOf (boundsAt v) (a .p)) (sym (read-high o b)) in
+    passes (drop h o) (drop h b) (a .faces .now) (a .p) (a .enough) first (sym (λ i. first .stopped || le (first .best) (far i)) ∙ c .if4 .taken)
+    ∙ (λ i. searchIn (a .faces .now) (a .p) (a .enough) (treeIn (drop h o) (drop h b)) (c .before .before .before .seek .ensures i))
+    ∙ low-first o b (a .faces .now) (a .p) (a .enough) (a .s) test more (sym (λ i. le (c .before .before .before .before .before .before .before .before .before .gap .ensures i) (c .before .before .before .before .before .before .before .gap2 .ensures i)) ∙ c .before .before .before .before .before .before .if3 .taken)
+
 seek-mul-seek : (t : ℕ) → seek-lts.Need-mul-seek (
   least-reads.Asked,
   least-reads.Learnt,
@@ -195,7 +216,7 @@ seek-mul-seek : (t : ℕ) → seek-lts.Need-mul-seek (
   seek-below t,
   seek.Post,
 ) (seek-at t) seek.Post
-seek-mul-seek t c = omega (arith, c .before .before .before .before .before .before .before .before .before .before .before .before .before)
+seek-mul-seek t c = omega (arith, c .before .before .before .before .before .before .before .before .before .before .before .before .before .before .before .before)
 
 seek-sub-seek : (t : ℕ) → seek-lts.Need-sub-seek (
   least-reads.Asked,
@@ -235,7 +256,7 @@ seek-mul-seek-2 : (t : ℕ) → seek-lts.Need-mul-seek-2 (
   seek-below t,
   seek.Post,
 ) (seek-at t) seek.Post
-seek-mul-seek-2 t c = omega (arith, c .before .before .before .before .before .before .before .before .before .before .before .before .before .before)
+seek-mul-seek-2 t c = omega (arith, c .before .before .before .before .before .before .before .before .before .before .before .before .before .before .before .before .before)
 
 seek-sub-seek-2 : (t : ℕ) → seek-lts.Need-sub-seek-2 (
   least-reads.Asked,
@@ -265,7 +286,7 @@ seek-part-seek-end-2 : (t : ℕ) → seek-lts.Need-part-seek-end-2 (
   seek-below t,
   seek.Post,
 ) (seek-at t) seek.Post
-seek-part-seek-end-2 t c = omega (arith, c .before .before .before .before .before .before .before .before .before .before .before .before .before .before .pre .1 .places)
+seek-part-seek-end-2 t c = omega (arith, c .before .before .before .before .before .before .before .before .before .before .before .before .before .before .before .before .before .pre .1 .places)
 
 seek-seek-requires-2 : (t : ℕ) → seek-lts.Need-seek-requires-2 (
   least-reads.Asked,
@@ -275,25 +296,25 @@ seek-seek-requires-2 : (t : ℕ) → seek-lts.Need-seek-requires-2 (
   seek-below t,
   seek.Post,
 ) (seek-at t) seek.Post
-seek-seek-requires-2 t c κs = let a = c .before .before .before .before .before .before .before .before .before .before .before .before .before .before .before .args in
+seek-seek-requires-2 t c κs = let a = c .before .before .before .before .before .before .before .before .before .before .before .before .before .before .before .before .before .before .args in
     let o = a .o .now in
     let b = a .b .now in
     let n = length o in
     let h = n / 2 in
-    let more : 4 < n = omega (arith, c .before .before .before .before .before .before .before .before .before .before .if2) in
+    let more : 4 < n = omega (arith, c .before .before .before .before .before .before .before .before .before .before .before .before .before .if2) in
     let eo = to-end n h o (omega arith) in
-    let eb = to-end n h b (omega (arith, c .before .before .before .before .before .before .before .before .before .before .before .before .before .before .before .pre .1 .places)) in
+    let eb = to-end n h b (omega (arith, c .before .before .before .before .before .before .before .before .before .before .before .before .before .before .before .before .before .before .pre .1 .places)) in
     let e = ap length eo ∙ length-drop h o in
     let e₂ = ap length eb ∙ length-drop h b in (
-      omega (arith, e, more, c .before .before .before .before .before .before .before .before .before .before .before .before .before .before .before .pre .0),
+      omega (arith, e, more, c .before .before .before .before .before .before .before .before .before .before .before .before .before .before .before .before .before .before .pre .0),
       record {
         some = omega (arith, e, more);
-        places = omega (arith, e, e₂, c .before .before .before .before .before .before .before .before .before .before .before .before .before .before .before .pre .1 .places);
-        away = c .before .before .before .before .before .before .gap2 .ensures ∙ ap (λ (v : List Float). gapOf (boundsAt v) (a .p)) (sym (read-high o b)) ∙ sym (λ i. gapOf (boundsAt (getD (eb i) (length (eo i) / 2) [])) (a .p));
+        places = omega (arith, e, e₂, c .before .before .before .before .before .before .before .before .before .before .before .before .before .before .before .before .before .before .pre .1 .places);
+        away = c .before .before .before .before .before .before .before .before .before .gap2 .ensures ∙ ap (λ (v : List Float). gapOf (boundsAt v) (a .p)) (sym (read-high o b)) ∙ sym (λ i. gapOf (boundsAt (getD (eb i) (length (eo i) / 2) [])) (a .p));
       },
     )
 
-seek-returns-3 : (t : ℕ) → seek-lts.Need-returns-3 (
+seek-returns-4 : (t : ℕ) → seek-lts.Need-returns-4 (
   least-reads.Asked,
   least-reads.Learnt,
   gap-reads.Asked,
@@ -301,18 +322,18 @@ seek-returns-3 : (t : ℕ) → seek-lts.Need-returns-3 (
   seek-below t,
   seek.Post,
 ) (seek-at t) seek.Post
-seek-returns-3 t c = let a = c .before .before .before .before .before .before .before .before .before .before .before .before .before .before .before .before .args in
+seek-returns-4 t c = let a = c .before .before .before .before .before .before .before .before .before .before .before .before .before .before .before .before .before .before .before .args in
     let o = a .o .now in
     let b = a .b .now in
     let n = length o in
     let h = n / 2 in
-    let more : 4 < n = omega (arith, c .before .before .before .before .before .before .before .before .before .before .before .if2) in
-    let test = sym (λ i. a .s .stopped || le (a .s .best) (c .before .before .before .before .before .before .before .before .before .before .before .before .before .before .before .before .pre .1 .away i)) ∙ c .before .before .before .before .before .before .before .before .before .before .before .before .if1 .left in
+    let more : 4 < n = omega (arith, c .before .before .before .before .before .before .before .before .before .before .before .before .before .before .if2) in
+    let test = sym (λ i. a .s .stopped || le (a .s .best) (c .before .before .before .before .before .before .before .before .before .before .before .before .before .before .before .before .before .before .before .pre .1 .away i)) ∙ c .before .before .before .before .before .before .before .before .before .before .before .before .before .before .before .if1 .left in
     let eo = to-end n h o (omega arith) in
-    let eb = to-end n h b (omega (arith, c .before .before .before .before .before .before .before .before .before .before .before .before .before .before .before .before .pre .1 .places)) in
+    let eb = to-end n h b (omega (arith, c .before .before .before .before .before .before .before .before .before .before .before .before .before .before .before .before .before .before .before .pre .1 .places)) in
     c .seek2 .ensures
-    ∙ (λ i. searchIn (a .faces .now) (a .p) (a .enough) (treeIn (eo i) (eb i)) (c .before .before .before .seek .ensures i))
-    ∙ low-first o b (a .faces .now) (a .p) (a .enough) (a .s) test more (sym (λ i. le (c .before .before .before .before .before .before .before .before .before .gap .ensures i) (c .before .before .before .before .before .before .before .gap2 .ensures i)) ∙ c .before .before .before .before .before .before .if3 .taken)
+    ∙ (λ i. searchIn (a .faces .now) (a .p) (a .enough) (treeIn (eo i) (eb i)) (c .before .before .before .before .before .before .seek .ensures i))
+    ∙ low-first o b (a .faces .now) (a .p) (a .enough) (a .s) test more (sym (λ i. le (c .before .before .before .before .before .before .before .before .before .before .before .before .gap .ensures i) (c .before .before .before .before .before .before .before .before .before .before .gap2 .ensures i)) ∙ c .before .before .before .before .before .before .before .before .before .if3 .taken)
 
 seek-mul-seek-3 : (t : ℕ) → seek-lts.Need-mul-seek-3 (
   least-reads.Asked,
@@ -420,6 +441,29 @@ seek-seek-requires-3 t c κs = let a = c .before .before .before .before .before
       },
     )
 
+seek-returns-5 : (t : ℕ) → seek-lts.Need-returns-5 (
+  least-reads.Asked,
+  least-reads.Learnt,
+  gap-reads.Asked,
+  gap-reads.Learnt,
+  seek-below t,
+  seek.Post,
+) (seek-at t) seek.Post
+seek-returns-5 t c = let a = c .before .before .before .before .before .before .before .before .before .before .before .before .before .before .before .before .args in
+    let o = a .o .now in
+    let b = a .b .now in
+    let n = length o in
+    let h = n / 2 in
+    let more : 4 < n = omega (arith, c .before .before .before .before .before .before .before .before .before .before .before .if2) in
+    let test = sym (λ i. a .s .stopped || le (a .s .best) (c .before .before .before .before .before .before .before .before .before .before .before .before .before .before .before .before .pre .1 .away i)) ∙ c .before .before .before .before .before .before .before .before .before .before .before .before .if1 .left in
+    let eo = to-end n h o (omega arith) in
+    let eb = to-end n h b (omega (arith, c .before .before .before .before .before .before .before .before .before .before .before .before .before .before .before .before .pre .1 .places)) in
+    let first = c .before .before .before .seek3 .result in
+    let far = c .before .before .before .before .before .before .before .before .before .gap .ensures ∙ ap (λ (v : List Float). gapOf (boundsAt v) (a .p)) (sym (read-low o b more)) in
+    passes (take h o) (take h b) (a .faces .now) (a .p) (a .enough) first (sym (λ i. first .stopped || le (first .best) (far i)) ∙ c .if5 .taken)
+    ∙ (λ i. searchIn (a .faces .now) (a .p) (a .enough) (treeIn (take h o) (take h b)) ((c .before .before .before .seek3 .ensures ∙ (λ j. searchIn (a .faces .now) (a .p) (a .enough) (treeIn (eo j) (eb j)) (a .s))) i))
+    ∙ high-first o b (a .faces .now) (a .p) (a .enough) (a .s) test more (sym (λ i. le (c .before .before .before .before .before .before .before .before .before .gap .ensures i) (c .before .before .before .before .before .before .before .gap2 .ensures i)) ∙ c .before .before .before .before .before .before .if3 .left)
+
 seek-slice-aggregate-seek-3 : (t : ℕ) → seek-lts.Need-slice-aggregate-seek-3 (
   least-reads.Asked,
   least-reads.Learnt,
@@ -438,7 +482,7 @@ seek-slice-aggregate-seek-4 : (t : ℕ) → seek-lts.Need-slice-aggregate-seek-4
   seek-below t,
   seek.Post,
 ) (seek-at t) seek.Post
-seek-slice-aggregate-seek-4 t c = sym (length-take-le _ _ (omega (arith, c .before .before .before .before .before .before .before .before .before .before .before .before .before .before .before .pre .1 .places)))
+seek-slice-aggregate-seek-4 t c = sym (length-take-le _ _ (omega (arith, c .before .before .before .before .before .before .before .before .before .before .before .before .before .before .before .before .before .before .pre .1 .places)))
 
 seek-seek-requires-4 : (t : ℕ) → seek-lts.Need-seek-requires-4 (
   least-reads.Asked,
@@ -448,23 +492,23 @@ seek-seek-requires-4 : (t : ℕ) → seek-lts.Need-seek-requires-4 (
   seek-below t,
   seek.Post,
 ) (seek-at t) seek.Post
-seek-seek-requires-4 t c κs = let a = c .before .before .before .before .before .before .before .before .before .before .before .before .before .before .before .args in
+seek-seek-requires-4 t c κs = let a = c .before .before .before .before .before .before .before .before .before .before .before .before .before .before .before .before .before .before .args in
     let o = a .o .now in
     let b = a .b .now in
     let n = length o in
     let h = n / 2 in
-    let more : 4 < n = omega (arith, c .before .before .before .before .before .before .before .before .before .before .if2) in
+    let more : 4 < n = omega (arith, c .before .before .before .before .before .before .before .before .before .before .before .before .before .if2) in
     let e = length-take-le h o (omega arith) in
-    let e₂ = length-take-le h b (omega (arith, c .before .before .before .before .before .before .before .before .before .before .before .before .before .before .before .pre .1 .places)) in (
-      omega (arith, e, more, c .before .before .before .before .before .before .before .before .before .before .before .before .before .before .before .pre .0),
+    let e₂ = length-take-le h b (omega (arith, c .before .before .before .before .before .before .before .before .before .before .before .before .before .before .before .before .before .before .pre .1 .places)) in (
+      omega (arith, e, more, c .before .before .before .before .before .before .before .before .before .before .before .before .before .before .before .before .before .before .pre .0),
       record {
         some = omega (arith, e, more);
         places = e₂ ∙ sym e;
-        away = c .before .before .before .before .before .before .before .before .gap .ensures ∙ ap (λ (v : List Float). gapOf (boundsAt v) (a .p)) (sym (read-low o b more));
+        away = c .before .before .before .before .before .before .before .before .before .before .before .gap .ensures ∙ ap (λ (v : List Float). gapOf (boundsAt v) (a .p)) (sym (read-low o b more));
       },
     )
 
-seek-returns-4 : (t : ℕ) → seek-lts.Need-returns-4 (
+seek-returns-6 : (t : ℕ) → seek-lts.Need-returns-6 (
   least-reads.Asked,
   least-reads.Learnt,
   gap-reads.Asked,
@@ -472,18 +516,18 @@ seek-returns-4 : (t : ℕ) → seek-lts.Need-returns-4 (
   seek-below t,
   seek.Post,
 ) (seek-at t) seek.Post
-seek-returns-4 t c = let a = c .before .before .before .before .before .before .before .before .before .before .before .before .before .before .before .before .args in
+seek-returns-6 t c = let a = c .before .before .before .before .before .before .before .before .before .before .before .before .before .before .before .before .before .before .before .args in
     let o = a .o .now in
     let b = a .b .now in
     let n = length o in
     let h = n / 2 in
-    let more : 4 < n = omega (arith, c .before .before .before .before .before .before .before .before .before .before .before .if2) in
-    let test = sym (λ i. a .s .stopped || le (a .s .best) (c .before .before .before .before .before .before .before .before .before .before .before .before .before .before .before .before .pre .1 .away i)) ∙ c .before .before .before .before .before .before .before .before .before .before .before .before .if1 .left in
+    let more : 4 < n = omega (arith, c .before .before .before .before .before .before .before .before .before .before .before .before .before .before .if2) in
+    let test = sym (λ i. a .s .stopped || le (a .s .best) (c .before .before .before .before .before .before .before .before .before .before .before .before .before .before .before .before .before .before .before .pre .1 .away i)) ∙ c .before .before .before .before .before .before .before .before .before .before .before .before .before .before .before .if1 .left in
     let eo = to-end n h o (omega arith) in
-    let eb = to-end n h b (omega (arith, c .before .before .before .before .before .before .before .before .before .before .before .before .before .before .before .before .pre .1 .places)) in
+    let eb = to-end n h b (omega (arith, c .before .before .before .before .before .before .before .before .before .before .before .before .before .before .before .before .before .before .before .pre .1 .places)) in
     c .seek4 .ensures
-    ∙ (λ i. searchIn (a .faces .now) (a .p) (a .enough) (treeIn (take h o) (take h b)) ((c .before .before .before .seek3 .ensures ∙ (λ j. searchIn (a .faces .now) (a .p) (a .enough) (treeIn (eo j) (eb j)) (a .s))) i))
-    ∙ high-first o b (a .faces .now) (a .p) (a .enough) (a .s) test more (sym (λ i. le (c .before .before .before .before .before .before .before .before .before .gap .ensures i) (c .before .before .before .before .before .before .before .gap2 .ensures i)) ∙ c .before .before .before .before .before .before .if3 .left)
+    ∙ (λ i. searchIn (a .faces .now) (a .p) (a .enough) (treeIn (take h o) (take h b)) ((c .before .before .before .before .before .before .seek3 .ensures ∙ (λ j. searchIn (a .faces .now) (a .p) (a .enough) (treeIn (eo j) (eb j)) (a .s))) i))
+    ∙ high-first o b (a .faces .now) (a .p) (a .enough) (a .s) test more (sym (λ i. le (c .before .before .before .before .before .before .before .before .before .before .before .before .gap .ensures i) (c .before .before .before .before .before .before .before .before .before .before .gap2 .ensures i)) ∙ c .before .before .before .before .before .before .before .before .before .if3 .left)
 
 pub +seek-spec : {M : Type 1} → statement M
 +seek-spec = close μ-seek λ t. seek-lts.spec (
@@ -510,6 +554,7 @@ pub +seek-spec : {M : Type 1} → statement M
     (seek-slice-aggregate-seek t)
     (seek-slice-aggregate-seek-2 t)
     (seek-seek-requires t)
+    (seek-returns-3 t)
     (seek-mul-seek t)
     (seek-sub-seek t)
     (seek-part-seek-start t)
@@ -519,7 +564,7 @@ pub +seek-spec : {M : Type 1} → statement M
     (seek-part-seek-start-2 t)
     (seek-part-seek-end-2 t)
     (seek-seek-requires-2 t)
-    (seek-returns-3 t)
+    (seek-returns-4 t)
     (seek-mul-seek-3 t)
     (seek-sub-seek-3 t)
     (seek-part-seek-start-3 t)
@@ -529,7 +574,8 @@ pub +seek-spec : {M : Type 1} → statement M
     (seek-part-seek-start-4 t)
     (seek-part-seek-end-4 t)
     (seek-seek-requires-3 t)
+    (seek-returns-5 t)
     (seek-slice-aggregate-seek-3 t)
     (seek-slice-aggregate-seek-4 t)
     (seek-seek-requires-4 t)
-    (seek-returns-4 t)
+    (seek-returns-6 t)

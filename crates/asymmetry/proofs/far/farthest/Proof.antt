@@ -72,9 +72,9 @@ loop-again c = let l = c .before .before .before .before .before .before .before
     let root = c .before .sqrt .ensures ∙ ap (sqrtOf binary64) (c .before .before .near .ensures ∙ ap (λ (p : Vec3). searchIn (a .faces .now) p (mul binary64 w w) T unfound .best) seen-at) in (
       omega (arith, c .before .before .before .before .before .before .before .before),
       (c .max .ensures ∙ ap (maxOf w) root)
-      ∙ sym (choose-true _ _ w (c .before .before .before .before .before .before .if1 .taken))
-      ∙ ap (λ (w : Float). choose (getD (a .seen .now) (l .k) false) (farther (a .faces .now) T (a .mirror) at w) w) (l .inv .1)
-      ∙ foldTo-more (λ k w. choose (getD (a .seen .now) k false) (farther (a .faces .now) T (a .mirror) (point (getD (a .nodes .now) k [])) w) w) zero64 (l .k),
+          ∙ sym (choose-true _ _ w (c .before .before .before .before .before .before .if1 .taken))
+          ∙ ap (λ (w : Float). choose (getD (a .seen .now) (l .k) false) (farther (a .faces .now) T (a .mirror) at w) w) (l .inv .1)
+          ∙ foldTo-more (λ k w. choose (getD (a .seen .now) k false) (farther (a .faces .now) T (a .mirror) (point (getD (a .nodes .now) k [])) w) w) zero64 (l .k),
     )
 
 add-k-2 : tie.Need-add-k-2 Inv-loop μ-loop
@@ -92,8 +92,8 @@ loop-again-2 c = let l = c .before .before .before .loop in
     let w = l .worst in (
       omega (arith, c .before .before),
       sym (choose-false (getD (a .seen .now) (l .k) false) (farther (a .faces .now) T (a .mirror) at w) w (c .if1 .left))
-      ∙ ap (λ (w : Float). choose (getD (a .seen .now) (l .k) false) (farther (a .faces .now) T (a .mirror) at w) w) (l .inv .1)
-      ∙ foldTo-more (λ k w. choose (getD (a .seen .now) k false) (farther (a .faces .now) T (a .mirror) (point (getD (a .nodes .now) k [])) w) w) zero64 (l .k),
+          ∙ ap (λ (w : Float). choose (getD (a .seen .now) (l .k) false) (farther (a .faces .now) T (a .mirror) at w) w) (l .inv .1)
+          ∙ foldTo-more (λ k w. choose (getD (a .seen .now) k false) (farther (a .faces .now) T (a .mirror) (point (getD (a .nodes .now) k [])) w) w) zero64 (l .k),
     )
 
 returns : tie.Need-returns Inv-loop μ-loop

@@ -46,9 +46,9 @@ loop-again c = let l = c .before .before .before .before .before .before .loop i
       omega (arith, c .before .before .before .before .before),
       c .before .before .see-corners .kept .0 ∙ l .inv .1,
       c .before .before .see-corners .ensures
-      ∙ ap (λ (s : List Bool). set (set (set s (getD t 0 0) true) (getD t 1 0) true) (getD t 2 0) true) (l .inv .2)
-      ∙ three-marks (λ k. anyTo (λ j. cornerOf (getD (a .tris .now) j []) k) (l .i)) m (getD t 0 0) (getD t 1 0) (getD t 2 0)
-      ∙ (λ i. tabulate (λ k. any-step (λ j. cornerOf (getD (a .tris .now) j []) k) (l .i) i) m),
+          ∙ ap (λ (s : List Bool). set (set (set s (getD t 0 0) true) (getD t 1 0) true) (getD t 2 0) true) (l .inv .2)
+          ∙ three-marks (λ k. anyTo (λ j. cornerOf (getD (a .tris .now) j []) k) (l .i)) m (getD t 0 0) (getD t 1 0) (getD t 2 0)
+          ∙ (λ i. tabulate (λ k. any-step (λ j. cornerOf (getD (a .tris .now) j []) k) (l .i) i) m),
     )
 
 same-length : tie.Need-same-length Inv-loop μ-loop
