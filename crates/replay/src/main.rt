@@ -4,6 +4,7 @@ mod leaves;
 mod meshes;
 mod products;
 mod read;
+mod regions;
 mod runs;
 mod tables;
 mod updates;
@@ -38,6 +39,7 @@ fn case(function: u64) -> bool {
         19 => tables::mirrored(),
         20 => runs::unmirrored(),
         21 => runs::mirrored(),
+        22 => regions::off_centre(),
         _ => false,
     }
 }
@@ -65,6 +67,7 @@ fn name(function: u64) {
         19 => io::write_all(STDOUT_FILENO, b"filter of two planes"),
         20 => io::write_all(STDOUT_FILENO, b"run"),
         21 => io::write_all(STDOUT_FILENO, b"run of a plane"),
+        22 => io::write_all(STDOUT_FILENO, b"off_centre"),
         _ => io::write_all(STDOUT_FILENO, b"unknown"),
     }
     ;

@@ -1,7 +1,7 @@
-//! Tetrahedra of ten nodes, and the filter's table of eight elements.
+//! Tetrahedra of ten nodes, points about a plane, and the filter's table of eight elements.
 use tenon::Vec3;
 use tenon::mesh::TetMesh;
-use tenon::topo::{Filter, Mirror};
+use tenon::topo::{Filter, Mirror, region};
 
 use crate::inputs::{Gen, Point};
 use crate::sample::Sample;
@@ -15,6 +15,7 @@ fn vector([x, y, z]: Point) -> Vec3 {
 
 pub fn all(s: &mut Sample) {
     s.section(17, "tetrahedron", [], 100, tetrahedron, measured);
+    s.section(22, "off_centre", [], 60, |g| (std::array::from_fn::<_, 8, _>(|_| near(g)), [near(g), normal(g)]), off_centre);
     s.section(18, "filter", [], 30, elements, |job| table(job, []));
     s.section(19, "filter of two planes", [], 30, |g| (elements(g), planes(g)), |(job, planes)| table(job, planes));
 }
@@ -32,6 +33,23 @@ fn measured((nodes, tet): ([Point; 10], [u32; 10])) -> [f64; 6] {
     let mesh = TetMesh { nodes: nodes.map(vector).to_vec(), ..TetMesh::default() };
     let middle = mesh.centroid(&tet);
     [mesh.volume(&tet), mesh.corner_volume(&tet), middle.x, middle.y, middle.z, mesh.extent()]
+}
+
+fn near(g: &mut Gen) -> Point {
+    std::array::from_fn(|_| if g.below(2) == 0 { g.below(3) as f64 } else { g.signed() })
+}
+
+fn normal(g: &mut Gen) -> Point {
+    g.pick(&[[1.0, 0.0, 0.0], [0.0, -2.0, 0.0], [0.6, 0.0, 0.8], [1.0, 1.0, 1.0]])
+}
+
+/// 0, or 1 and how far the points reach to each side of a plane.
+fn off_centre((points, [point, normal]): ([Point; 8], [Point; 2])) -> (bool, [f64; 2]) {
+    let mirror = Mirror { point: vector(point), normal: vector(normal) };
+    match region::off_centre(points.into_iter().map(vector), &mirror) {
+        Some((to, other)) => (true, [to, other]),
+        None => (false, [0.0, 0.0]),
+    }
 }
 
 /// Middles on a grid, so that distances equal to the radius come up, or anywhere; volumes; a radius.

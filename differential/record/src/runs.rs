@@ -3,10 +3,10 @@ use std::sync::Arc;
 use std::sync::atomic::{AtomicBool, Ordering};
 use std::time::Duration;
 
+use tenon::Vec3;
 use tenon::stand_ins::{ended, set_clock};
 use tenon::tools::STOPPED;
 use tenon::topo::{Design, Goal, Iteration, Mirror, Stiffness, modulus, optimize};
-use tenon::Vec3;
 
 use crate::inputs::{Gen, Point};
 use crate::sample::{Sample, Words};
@@ -89,7 +89,8 @@ impl<const PLANES: usize> Job<PLANES> {
     }
 
     fn run(self) -> Told {
-        let design = Design { volumes: self.volumes.to_vec(), centroids: self.middles.map(vector).to_vec(), passive: self.passive.to_vec() };
+        let design =
+            Design { volumes: self.volumes.to_vec(), centroids: self.middles.map(vector).to_vec(), passive: self.passive.to_vec() };
         let mirror = |p: [f64; 6]| Mirror { point: vector([p[0], p[1], p[2]]), normal: vector([p[3], p[4], p[5]]) };
         let goal = Goal {
             fraction: self.fraction,
