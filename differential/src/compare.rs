@@ -197,7 +197,7 @@ impl Run {
         self.differences += differences;
     }
 
-    /// Prints the sum of all; whether they agree.
+    /// Prints the sum of all; whether they agree, and there is one.
     pub fn close(&self) -> bool {
         println!(
             "differential: {} functions, {} cases, {} differences (seed {}, {:.1} s)",
@@ -207,7 +207,7 @@ impl Run {
             self.seed,
             self.began.elapsed().as_secs_f64()
         );
-        self.differences == 0
+        self.differences == 0 && self.functions > 0
     }
 }
 

@@ -1,10 +1,11 @@
 //! Runs the proved library and the Rust original on the same inputs and compares what they give, bit by bit.
 //!
-//!     differential [--cases N] [--long] [--seed S] [--only FUNCTION]
+//!     differential [--cases N] [--long] [--seed S] [--only FUNCTION] [--shape FILE]
 //!
 //! Prints a line for each function: how many cases, how many differences, and the smallest inputs that have one, as bits. Ends with
 //! status 1 where there are any. `--cases` is how many random inputs a leaf gets beside its edges, and functions over lists get fewer in
-//! proportion; `--long` means twenty times as many, and the largest tables and runs, which take some gigabytes.
+//! proportion; `--long` means twenty times as many, and the largest tables and runs, which take some
+//! gigabytes. `--shape` names the program that job strips are put through; without it none are.
 mod calls;
 mod compare;
 mod filter;
@@ -15,9 +16,9 @@ mod mesh;
 mod oc;
 mod plain;
 mod runs;
-#[cfg(test)]
 mod strips;
 
+use std::path::PathBuf;
 use std::process::ExitCode;
 
 use compare::Run;
@@ -25,8 +26,8 @@ use compare::Run;
 const CASES: usize = 1_000_000;
 const LONG: usize = 20 * CASES;
 
-fn options() -> Option<Run> {
-    let (mut cases, mut seed, mut only, mut long) = (CASES, 1, None, false);
+fn options() -> Option<(Run, Option<PathBuf>)> {
+    let (mut cases, mut seed, mut only, mut long, mut shape) = (CASES, 1, None, false, None);
     let mut words = std::env::args().skip(1);
     while let Some(word) = words.next() {
         match word.as_str() {
@@ -34,17 +35,18 @@ fn options() -> Option<Run> {
             "--long" => (cases, long) = (LONG, true),
             "--seed" => seed = words.next()?.parse().ok()?,
             "--only" => only = Some(words.next()?),
+            "--shape" => shape = Some(PathBuf::from(words.next()?)),
             _ => return None,
         }
     }
     let mut run = Run::new(cases, seed);
     (run.only, run.long) = (only, long);
-    Some(run)
+    Some((run, shape))
 }
 
 fn main() -> ExitCode {
-    let Some(mut run) = options() else {
-        eprintln!("usage: differential [--cases N] [--long] [--seed S] [--only FUNCTION]");
+    let Some((mut run, shape)) = options() else {
+        eprintln!("usage: differential [--cases N] [--long] [--seed S] [--only FUNCTION] [--shape FILE]");
         return ExitCode::from(2);
     };
     leaves::all(&mut run);
@@ -53,5 +55,8 @@ fn main() -> ExitCode {
     oc::all(&mut run);
     runs::all(&mut run);
     calls::all(&mut run);
+    if let Some(shape) = shape {
+        strips::all(&mut run, &shape);
+    }
     if run.close() { ExitCode::SUCCESS } else { ExitCode::FAILURE }
 }
