@@ -1,6 +1,6 @@
 -- Two corners of the box that are at most one step along each axis apart are the ends of a tetrahedron's side: in a cell that has both, the way that steps
 -- first along the axes on whose far side they are, then along those on which they differ. Assumes nothing.
-use mathlib.Core.Path.{_≡_, refl, sym, ap, _∙_, subst}
+use mathlib.Core.Path.{_≡_, refl, sym, subst}
 use mathlib.Core.Bool.{Bool, true, false}
 use mathlib.Core.Logic.{_⊎_, inl, inr}
 use Prim.Native.Nat.{ℕ, zero, suc, _+_, _*_, _/_, _%_, _≤_, _<_}
@@ -9,7 +9,7 @@ use Rattle.lists.specs.Lists.{choose}
 use Rattle.lattice.specs.declared.Grid.{Grid}
 use Rattle.lattice.specs.declared.Corner.{Corner}
 use Rattle.lattice.specs.declared.Four.{Four}
-use Rattle.lattice.specs.Lattice.{numberOf, tetsIn, stepped, firstOf, wayOf, Edge, sidesOf, metBefore, edgesIn}
+use Rattle.lattice.specs.Lattice.{numberOf, stepped, wayOf, metBefore, edgesIn}
 use Rattle.lattice.specs.Bounds.{Positive, Inside}
 use Rattle.lattice.proofs.Ways.{First, wayFrom}
 use Rattle.points.proofs.Digits.{tetAt, tet-lt, tet-way, tet-first}

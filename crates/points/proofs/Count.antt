@@ -1,8 +1,8 @@
 -- A block has as many nodes as the grid of half the cell size has points: each node lies at one point, and each point is one node's. Assumes nothing.
 use mathlib.Core.Path.{_≡_, refl, sym, ap, _∙_, subst}
 use mathlib.Core.Bool.{Bool, true, false}
-use mathlib.Core.Logic.{_⊎_, inl, inr, ⊎-elim}
-use Prim.Native.Nat.{ℕ, _+_, _-_, _*_, _/_, _≤_, _<_}
+use mathlib.Core.Logic.{_⊎_, inl, inr}
+use Prim.Native.Nat.{ℕ, _+_, _-_, _/_, _≤_, _<_}
 use native.Mathlib.Omega.{arith}
 use borrow.Author.Tests.{eq-eqb, ne-eqb, eqb-true, eqb-false, lt-ltb, le-ltb, ltb-true, ltb-false}
 use lib.ListN.{length, getD}
@@ -16,7 +16,7 @@ use Rattle.lattice.specs.Bounds.{Positive, Inside}
 use Rattle.lattice.proofs.Numbers.{number-lt}
 use Rattle.lattice.proofs.Ways.{corner-inside}
 use Rattle.points.specs.Points.{Counted}
-use Rattle.points.proofs.Maps.{Undone, as-many}
+use Rattle.points.proofs.Maps.{as-many}
 use Rattle.points.proofs.Digits.{number-corner, corner-number}
 use Rattle.points.proofs.Cells.{below, above, fine, point-met}
 use Rattle.points.proofs.Edges.{place-found, Steps, edges-steps}

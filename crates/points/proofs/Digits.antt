@@ -1,6 +1,6 @@
 -- A corner's number and back, and the tetrahedra of a cell. Assumes nothing.
-use mathlib.Core.Path.{_≡_, refl, sym, ap, _∙_}
-use Prim.Native.Nat.{ℕ, _+_, _*_, _/_, _%_, _≤_, _<_}
+use mathlib.Core.Path.{_≡_, ap, _∙_}
+use Prim.Native.Nat.{ℕ, _+_, _*_, _/_, _%_, _<_}
 use native.Mathlib.Omega.{arith}
 use native.Mathlib.Nat.{mod-eq-of-lt, div-eq-of-lt, add-mul-mod-self-left, add-mul-div-left, mod-add-div, zero-add}
 use Rattle.lattice.specs.declared.Grid.{Grid}

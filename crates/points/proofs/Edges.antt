@@ -2,16 +2,16 @@
 use mathlib.Core.Path.{_≡_, refl, sym, ap, _∙_, subst}
 use mathlib.Core.Bool.{Bool, true, false}
 use mathlib.Core.List.{List, [], _∷_, _++_}
-use mathlib.Core.Logic.{_⊎_, ⊎-elim}
+use mathlib.Core.Logic.{⊎-elim}
 use Prim.Native.Nat.{ℕ, zero, suc, _+_, _-_, _≤_, _<_}
 use native.Mathlib.Omega.{arith}
 use native.Mathlib.Nat.{not-suc-le-zero, le-of-suc-le-suc, eq-or-lt-of-le}
-use borrow.Author.Tests.{lt-ltb, ltb-true}
+use borrow.Author.Tests.{lt-ltb}
 use lib.ListN.{length, getD, List·getD-append}
 use lib.Seq.{getD-append-seam}
 use Rattle.lists.specs.Lists.{choose, foldTo}
 use Rattle.lattice.specs.declared.Grid.{Grid}
-use Rattle.lattice.specs.Lattice.{cornersIn, tetsIn, Edge, sidesOf, placeIn, metBefore, meet, meetAll, edgesTo, edgesIn}
+use Rattle.lattice.specs.Lattice.{tetsIn, Edge, sidesOf, placeIn, metBefore, meet, meetAll, edgesTo, edgesIn}
 use Rattle.lattice.specs.Bounds.{Positive}
 use Rattle.lattice.proofs.Edges.{same, same-eq, value-met, value-new, meet-met, meet-new, meet-has, Keeps, all-keeps, edges-keep, length-more}
 use Rattle.points.proofs.Sides.{Step, AllSteps, none, more, sides-steps}

@@ -23,7 +23,6 @@ without-is : (v k : ℕ) → (k ≡ v → ⊥) → ((v < k) × (without v k ≡ 
 unfolding without
 without-is v k h = go (ltb v k) refl
   where
-
     go : (t : Bool) → ltb v k ≡ t → ((v < k) × (without v k ≡ k - 1)) ⊎ ((k < v) × (without v k ≡ k))
     go true e = inl (ltb-true v k e, choose-true (ltb v k) (k - 1) k e)
     go false e =

@@ -1,8 +1,8 @@
 -- A side of a tetrahedron goes from a corner of the box to another by at most one step along each axis. Assumes nothing.
-use mathlib.Core.Path.{_≡_, refl, sym, ap, _∙_, subst}
+use mathlib.Core.Path.{_≡_, refl, sym, _∙_, subst}
 use mathlib.Core.Bool.{Bool, true, false}
 use mathlib.Core.List.{List, [], _∷_}
-use Prim.Native.Nat.{ℕ, suc, _+_, _*_, _/_, _%_, _≤_, _<_}
+use Prim.Native.Nat.{ℕ, _+_, _*_, _/_, _%_, _≤_, _<_}
 use native.Mathlib.Omega.{arith}
 use native.Mathlib.Nat.{mul-suc, mul-le-mul-left, mod-lt, min-comm, max-comm, min-eq-left, max-eq-right, lt-trans}
 use lib.Dec.{eqb}
@@ -40,12 +40,16 @@ step-up g m c = go (eqb m 0) (eqb m 1)
     go true t = record { x = omega arith; y = omega arith; z = omega arith; more = omega arith }
     go false true =
         record {
-          x = omega arith; y = omega arith; z = omega arith;
+          x = omega arith;
+          y = omega arith;
+          z = omega arith;
           more = omega (arith, grows (g .nx + 1) (c .j + (g .ny + 1) * c .k) (c .j + 1 + (g .ny + 1) * c .k) (omega arith) (omega arith));
         }
     go false false =
         record {
-          x = omega arith; y = omega arith; z = omega arith;
+          x = omega arith;
+          y = omega arith;
+          z = omega arith;
           more = omega (arith, grows (g .nx + 1) (c .j + (g .ny + 1) * c .k) (c .j + (g .ny + 1) * (c .k + 1)) (omega arith) (omega (arith, grows (g .ny + 1) (c .k) (c .k + 1) (omega arith) (omega arith))));
         }
 
