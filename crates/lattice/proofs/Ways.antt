@@ -26,7 +26,7 @@ pub record First (g : Grid) (c : Corner) : Type 0 where
   pub y : c .j < g .ny
   pub z : c .k < g .nz
 
-quotient : (n a b : ℕ) → 0 < a → n < a * b → n / a < b
+pub quotient : (n a b : ℕ) → 0 < a → n < a * b → n / a < b
 quotient n a b h l = div-lt-iff-lt-mul h .1 (rw mul-comm at l)
 
 pub first-in : (g : Grid) (e : ℕ) → Small g → e < tetsIn g → First g (firstOf g e)
@@ -68,7 +68,7 @@ step-below n a c h = go (eqb a 0) (eqb a 1)
     go false false = (omega (arith, h .0), omega (arith, h .1), omega (arith, h .2))
 
 -- what holds of 0 to 5
-six : (P : ℕ → Type 0) → P 0 → P 1 → P 2 → P 3 → P 4 → P 5 → (n : ℕ) → n < 6 → P n
+pub six : (P : ℕ → Type 0) → P 0 → P 1 → P 2 → P 3 → P 4 → P 5 → (n : ℕ) → n < 6 → P n
 six P a b c d e f zero h = a
 six P a b c d e f (suc zero) h = b
 six P a b c d e f (suc (suc zero)) h = c
@@ -78,7 +78,7 @@ six P a b c d e f (suc (suc (suc (suc (suc zero))))) h = f
 six P a b c d e f (suc (suc (suc (suc (suc (suc n)))))) h = absurd (omega arith)
 
 -- way w from the corner c
-abbrev wayFrom : Corner → ℕ → Four
+abbrev pub wayFrom : Corner → ℕ → Four
 wayFrom p w =
     let q = stepped (getD paths (3 * w + 0) 0) p in
     let r = stepped (getD paths (3 * w + 1) 0) q in

@@ -1,0 +1,2 @@
+-- `Points` has how many nodes a block has.
+pub mod Points
