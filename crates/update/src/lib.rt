@@ -1,5 +1,6 @@
 // One update of the design by the optimality criterion (`update` of oc.rs): each value moved toward where the work that it saves for the
 // volume that it costs is the same for all, by at most m, between X_MIN and 1 (1 where solid); that common rate found by halving.
+mod ahead;
 mod design;
 mod plain;
 mod quick;

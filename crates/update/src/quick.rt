@@ -380,11 +380,8 @@ pub fn quick(
             design,
             work,
         ),
-        Rule::Sharpened(_) => Rates {
-            low: 0.0,
-            high: 0.0,
-            kept: 0.0,
-            passes: 0usize,
-        },
+        Rule::Sharpened(beta) => crate::ahead::sharpened(
+            x, gain, dv, passive, m, target, tolerance, beta, starts, near, coef, volumes, first, design, work,
+        ),
     }
 }
