@@ -1,30 +1,41 @@
 -- The continued fraction by one turn and its end, and the volume kept by what each element adds. Assumes nothing.
 use mathlib.Core.Path.{_≡_, refl, sym, ap, _∙_}
-use mathlib.Core.Bool.{Bool, false}
+use mathlib.Core.Bool.{Bool, true, false, _&&_}
 use mathlib.Core.List.{List}
-use Prim.Native.Nat.{ℕ, zero, suc, _+_, _-_, _*_, _<_, min}
+use Prim.Native.Nat.{ℕ, zero, suc, _+_, _<_, min}
 use native.Mathlib.Omega.{arith}
 use lib.ListN.{length, getD}
 use lib.Ieee.{Float, nan, binary64, add, sub, mul, div}
 use Rattle.lists.specs.Lists.{tabulate, foldTo, sumTo, choose}
-use Rattle.lists.proofs.Laws.{sumTo-more, getD-tabulate, length-tabulate}
+use Rattle.lists.proofs.Laws.{sumTo-more, getD-tabulate, length-tabulate, both}
 use Rattle.ieee.specs.Basic.{one64, clampOf}
-use Rattle.ieee.specs.Tanh.{whole64, lambert, tanhOf}
-use Rattle.ieee.proofs.Lambert.{lambert-more}
+use Rattle.ieee.specs.Tanh.{tanhOf}
 use Rattle.table.specs.Table.{rowSum, applied}
 use Rattle.oc.specs.declared.seen.Sharpness.the-variants.{At}
 use Rattle.oc.specs.Project.{half, belowOf, wholeOf, turned, projected}
 use Rattle.oc.specs.Record.{dot}
 use Rattle.oc.specs.Seen.{sharpened, elementDensity, densities, seenDensity}
+use Rattle.pair.specs.Fraction.{fraction}
 use Rattle.pair.specs.Part.{bent, part}
+use Rattle.pair.proofs.Squeeze.{fraction-is}
 
 -- ---- the fraction
-pub turn-more : (z r : Float) (i : ℕ) → r ≡ lambert z i → add binary64 (whole64 (61 - 2 * i)) (div binary64 (mul binary64 z z) r) ≡ lambert z (i + 1)
-turn-more z r i h = ap (λ (q : Float). add binary64 (whole64 (61 - 2 * i)) (div binary64 (mul binary64 z z) q)) h ∙ lambert-more z i
-
-pub turn-over : (z r : Float) (i : ℕ) → r ≡ lambert z i → i ≡ 31 → div binary64 z r ≡ tanhOf z
+pub turn-over : (z r : Float) → r ≡ fraction (mul binary64 z z) 31 → div binary64 z r ≡ tanhOf z
 unfolding tanhOf
-turn-over z r i h e = ap (div binary64 z) (h ∙ ap (lambert z) e)
+turn-over z r h = ap (div binary64 z) (h ∙ fraction-is z 31)
+
+-- ---- eight tests
+pub eight : (a b c d e f g h : Bool) → (a && b && c && d && e && f && g && h) ≡ true
+    → (a ≡ true) × (b ≡ true) × (c ≡ true) × (d ≡ true) × (e ≡ true) × (f ≡ true) × (g ≡ true) × (h ≡ true)
+eight a b c d e f g h t =
+    let p = both (a && b && c && d && e && f && g) h t in
+    let q = both (a && b && c && d && e && f) g (p .0) in
+    let r = both (a && b && c && d && e) f (q .0) in
+    let s = both (a && b && c && d) e (r .0) in
+    let u = both (a && b && c) d (s .0) in
+    let v = both (a && b) c (u .0) in
+    let w = both a b (v .0) in
+    (w .0, w .1, v .1, u .1, s .1, r .1, q .1, p .1)
 
 -- ---- one element
 module _ (beta : Float) (starts near : List ℕ) (coef volumes : List Float) (passive : List Bool) (y : List Float) where

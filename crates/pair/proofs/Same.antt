@@ -26,7 +26,7 @@ module _ (m : ℕ) (e : ℤ) (n : ℕ) (d : ℤ) (h : m * up e * down d ≡ n * 
   level true = le-ltb (n * up d * down e) (m * up e * down d) (le-of-eq h)
   level false = le-ltb (m * up e * down d) (n * up d * down e) (le-of-eq (sym h))
 
-one-float : (s : Bool) (m : ℕ) (e : ℤ) (n : ℕ) (d : ℤ) → T (fits binary64 (fin s m e)) → T (fits binary64 (fin s n d)) → m * up e * down d ≡ n * up d * down e → fin s m e ≡ fin s n d
+pub one-float : (s : Bool) (m : ℕ) (e : ℤ) (n : ℕ) (d : ℤ) → T (fits binary64 (fin s m e)) → T (fits binary64 (fin s n d)) → m * up e * down d ≡ n * up d * down e → fin s m e ≡ fin s n d
 one-float s m e n d f g h =
     let x = fin s m e in
     let y = fin s n d in
