@@ -5,14 +5,14 @@ use mathlib.Core.List.{List}
 use Prim.Native.Nat.{ℕ, zero, suc, _+_, _<_, min}
 use native.Mathlib.Omega.{arith}
 use lib.ListN.{length, getD}
-use lib.Ieee.{Float, nan, binary64, add, sub, mul, div}
+use lib.Ieee.{Float, nan, binary64, add, mul, div}
 use Rattle.lists.specs.Lists.{tabulate, foldTo, sumTo, choose}
 use Rattle.lists.proofs.Laws.{sumTo-more, getD-tabulate, length-tabulate, both}
 use Rattle.ieee.specs.Basic.{one64, clampOf}
 use Rattle.ieee.specs.Tanh.{tanhOf}
 use Rattle.table.specs.Table.{rowSum, applied}
 use Rattle.oc.specs.declared.seen.Sharpness.the-variants.{At}
-use Rattle.oc.specs.Project.{half, belowOf, wholeOf, turned, projected}
+use Rattle.oc.specs.Project.{belowOf, wholeOf, turned, projected}
 use Rattle.oc.specs.Record.{dot}
 use Rattle.oc.specs.Seen.{sharpened, elementDensity, densities, seenDensity}
 use Rattle.pair.specs.Fraction.{fraction}

@@ -2,13 +2,13 @@
 -- order of the fractions is that of the results (`round-mono`); an infinity above is at least everything. Assumes nothing.
 use mathlib.Core.Path.{_≡_, refl, sym, ap, _∙_, subst}
 use Prim.Native.Nat.{ℕ, zero, suc, _+_, _-_, _*_, _^_, _≤_, _<_, zero-le}
-use native.Mathlib.Nat.{le-refl, le-trans, le-of-eq, mul-pos, mul-comm, mul-assoc, mul-right-comm, mul-left-comm, mul-mul-mul-comm, mul-le-mul-right, mul-le-mul-left, mul-sub}
+use native.Mathlib.Nat.{le-trans, le-of-eq, mul-pos, mul-comm, mul-assoc, mul-left-comm, mul-mul-mul-comm, mul-le-mul-right, mul-le-mul-left, mul-sub}
 use native.Mathlib.Omega.{arith}
-use mathlib.Core.Bool.{Bool, true, false, not, cond, true≢false, Bool·beq}
+use mathlib.Core.Bool.{Bool, true, false, not, cond, true≢false}
 use lib.IntN.{ℤ, pos}
 use lib.Dec.{T, ltb, eqb, ltb→lt, lt→ltb}
-use borrow.Author.Tests.{ltb-true, ltb-false, lt-ltb, le-ltb, ne-eqb}
-use lib.Ieee.{Float, nan, inf, fin, Format, prec, emax, low, up, down, isNan, lt, le, fits, odd, units, round, sum, neg, add, sub, mul, div, binary64, ofBits}
+use borrow.Author.Tests.{ltb-true, ltb-false, le-ltb, ne-eqb}
+use lib.Ieee.{Float, nan, inf, fin, Format, prec, emax, low, up, down, isNan, lt, le, odd, units, round, sum, neg, add, sub, mul, div, binary64, ofBits}
 use lib.Ieee.Fits.{up-pos, down-pos}
 use lib.Ieee.Order.{round-mono}
 use lib.Ieee.Positive.{positive}
@@ -17,8 +17,8 @@ use Rattle.ieee.specs.Basic.{one64, absOf, maxOf, minOf}
 use Rattle.ieee.specs.Bits.{negative}
 use Rattle.ieee.specs.Sqrt.{rootOf, sqrtOf}
 use Rattle.ieee.proofs.Order.{plusZero, le-parts, parts-le, le-transitive, le-number, le-not-lt, inf-most}
-use Rattle.ieee.proofs.Basic.{holds, lt-left, lt-right}
-use Rattle.ieee.proofs.Bounds.{lt-le, not-lt-le, max-either, min-either, max-left, max-right, min-left, min-right}
+use Rattle.ieee.proofs.Basic.{lt-left, lt-right}
+use Rattle.ieee.proofs.Bounds.{not-lt-le, max-either, min-either, max-left, max-right, min-left, min-right}
 use Rattle.ieee.proofs.Sign.{round-neg}
 
 no : {X : Type 0} → true ≡ false → X

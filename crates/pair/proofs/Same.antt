@@ -1,13 +1,13 @@
 -- Two floats that are equal and no zeros are one: neither precedes the other in totalOrder, and a key of that order is one float's. Assumes nothing.
-use mathlib.Core.Path.{_≡_, refl, sym, ap, _∙_}
-use mathlib.Core.List.{List, [], _∷_}
+use mathlib.Core.Path.{_≡_, refl, sym, _∙_}
+use mathlib.Core.List.{_∷_}
 use mathlib.Core.Bool.{Bool, true, false, not, _&&_, _||_, Bool·beq, true≢false}
 use Prim.Native.Nat.{ℕ, zero, suc, _*_, _≤_, _<_, zero-le, suc-le-suc}
 use native.Mathlib.Nat.{le-of-eq, le-antisymm, eq-zero-or-pos, mul-pos}
 use native.Mathlib.Omega.{arith}
 use mathlib.Core.Logic.{⊎-elim}
-use lib.IntN.{ℤ, pos}
-use lib.Dec.{T, ltb, eqb}
+use lib.IntN.{ℤ}
+use lib.Dec.{T, eqb}
 use borrow.Author.Tests.{ltb-false, le-ltb, eqb-true, eq-eqb}
 use lib.Ieee.{Float, nan, inf, fin, binary64, up, down, lt, eq, ne, isNan, fits, ofBits}
 use lib.Ieee.Fits.{down-pos}

@@ -1,18 +1,17 @@
 -- Bounds for the continued fraction: a turn takes bounds to bounds, since sums keep the order and quotients turn it, and what lies between bounds that
 -- meet is either. Assumes nothing.
 use mathlib.Core.Path.{_≡_, refl, sym, ap, _∙_, subst}
-use mathlib.Core.Bool.{Bool, true, false, _&&_}
+use mathlib.Core.Bool.{true, false, _&&_}
 use Prim.Native.Nat.{ℕ, zero, suc, _+_, _-_, _*_, _≤_, _<_}
 use native.Mathlib.Nat.{le-antisymm}
 use native.Mathlib.Omega.{arith}
 use native.Mathlib.Numerals.{add-one}
-use lib.IntN.{ℤ, pos}
 use lib.Dec.{T}
-use lib.Ieee.{Float, nan, inf, fin, binary64, add, mul, div, round, lt, le, fits, ofBits, ofInt, up, down, sum, units, isNan}
+use lib.Ieee.{Float, nan, inf, fin, binary64, add, mul, div, round, lt, le, fits, ofBits, ofInt, up, sum, units, isNan}
 use lib.Ieee.Fits.{add-fits, round-fits}
 use lib.Ieee.Order.{round-mono}
 use lib.Ieee.Positive.{positive, between}
-use Rattle.lists.specs.Lists.{foldTo, zero64}
+use Rattle.lists.specs.Lists.{zero64}
 use Rattle.lists.proofs.Laws.{foldTo-none, foldTo-more, both}
 use Rattle.ieee.specs.Basic.{one64}
 use Rattle.ieee.specs.Tanh.{whole64, lambert}

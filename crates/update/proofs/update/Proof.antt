@@ -1,7 +1,6 @@
 -- `update::update` meets its contract by those of its two ways (`proofs/Stages.antt`). Assumes nothing.
-use mathlib.Core.Path.{_≡_, refl, sym, ap, _∙_}
+use mathlib.Core.Path.{refl, ap, _∙_}
 use mathlib.Core.List.{List}
-use lib.ListN.{length}
 use lib.Ieee.{Float, lt, binary64, mul}
 use denote.Ref.{now}
 use Rattle.lists.specs.Lists.{choose, zero64}

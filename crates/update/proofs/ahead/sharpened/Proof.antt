@@ -1,8 +1,7 @@
 -- `update::ahead::sharpened` meets its contract where the table is well formed and the first rate keeps no more than the target. Assumes nothing.
 use borrow.Author.Needs.{needs}
-use mathlib.Core.Path.{_≡_, refl, sym, ap, _∙_}
+use mathlib.Core.Path.{sym, ap, _∙_}
 use native.Mathlib.Omega.{arith}
-use lib.ListN.{length}
 use lib.Ieee.{lt}
 use denote.Ref.{now}
 use Rattle.table.proofs.Laws.{well-wf}

@@ -1,9 +1,6 @@
 -- `update::ahead::volume_at` meets its contract: the volume is known, or is reckoned. Assumes nothing.
 use borrow.Author.Needs.{needs}
-use mathlib.Core.Path.{_≡_, refl, sym, ap, _∙_}
-use mathlib.Core.Bool.{Bool, _&&_}
-use native.Mathlib.Omega.{arith}
-use lib.ListN.{length}
+use mathlib.Core.Path.{sym, ap, _∙_}
 use lib.Ieee.{binary64, fits, eq, ne}
 use denote.Ref.{now}
 use Rattle.lists.specs.Lists.{zero64}

@@ -7,7 +7,6 @@ use native.Mathlib.Omega.{arith}
 use borrow.Author.Count.{below-more}
 use lib.ListN.{length, getD}
 use lib.Ieee.{nan, eq, ne, binary64, fits}
-use denote.Ref.{now}
 use Rattle.lists.specs.Lists.{overwrite, zero64}
 use Rattle.lists.proofs.Laws.{overwrite-none, both}
 use Rattle.ieee.proofs.Basic.{holds}

@@ -1,5 +1,5 @@
 -- `update::quick::quick` meets its contract by those of the two rules. Assumes nothing.
-use mathlib.Core.Path.{_≡_, sym, ap, _∙_}
+use mathlib.Core.Path.{sym, ap, _∙_}
 use denote.Ref.{now}
 use Rattle.oc.specs.declared.kept.Rule.{Rule}
 use Rattle.update.specs.Update.{given, firstRate, updated}
