@@ -1,13 +1,13 @@
--- The continued fraction by one turn and its end, and the volume kept by what each element adds. Assumes nothing.
+-- The volume kept by what each element adds. Assumes nothing.
 use mathlib.Core.Path.{_≡_, refl, sym, ap, _∙_}
-use mathlib.Core.Bool.{Bool, true, false, _&&_}
+use mathlib.Core.Bool.{Bool, false}
 use mathlib.Core.List.{List}
 use Prim.Native.Nat.{ℕ, zero, suc, _+_, _<_, min}
 use native.Mathlib.Omega.{arith}
 use lib.ListN.{length, getD}
 use lib.Ieee.{Float, nan, binary64, add, mul, div}
 use Rattle.lists.specs.Lists.{tabulate, foldTo, sumTo, choose}
-use Rattle.lists.proofs.Laws.{sumTo-more, getD-tabulate, length-tabulate, both}
+use Rattle.lists.proofs.Laws.{sumTo-more, getD-tabulate, length-tabulate}
 use Rattle.ieee.specs.Basic.{one64, clampOf}
 use Rattle.ieee.specs.Tanh.{tanhOf}
 use Rattle.table.specs.Table.{rowSum, applied}
@@ -15,27 +15,7 @@ use Rattle.oc.specs.declared.seen.Sharpness.the-variants.{At}
 use Rattle.oc.specs.Project.{belowOf, wholeOf, turned, projected}
 use Rattle.oc.specs.Record.{dot}
 use Rattle.oc.specs.Seen.{sharpened, elementDensity, densities, seenDensity}
-use Rattle.pair.specs.Fraction.{fraction}
 use Rattle.pair.specs.Part.{bent, part}
-use Rattle.pair.proofs.Squeeze.{fraction-is}
-
--- ---- the fraction
-pub turn-over : (z r : Float) → r ≡ fraction (mul binary64 z z) 31 → div binary64 z r ≡ tanhOf z
-unfolding tanhOf
-turn-over z r h = ap (div binary64 z) (h ∙ fraction-is z 31)
-
--- ---- eight tests
-pub eight : (a b c d e f g h : Bool) → (a && b && c && d && e && f && g && h) ≡ true
-    → (a ≡ true) × (b ≡ true) × (c ≡ true) × (d ≡ true) × (e ≡ true) × (f ≡ true) × (g ≡ true) × (h ≡ true)
-eight a b c d e f g h t =
-    let p = both (a && b && c && d && e && f && g) h t in
-    let q = both (a && b && c && d && e && f) g (p .0) in
-    let r = both (a && b && c && d && e) f (q .0) in
-    let s = both (a && b && c && d) e (r .0) in
-    let u = both (a && b && c) d (s .0) in
-    let v = both (a && b) c (u .0) in
-    let w = both a b (v .0) in
-    (w .0, w .1, v .1, u .1, s .1, r .1, q .1, p .1)
 
 -- ---- one element
 module _ (beta : Float) (starts near : List ℕ) (coef volumes : List Float) (passive : List Bool) (y : List Float) where

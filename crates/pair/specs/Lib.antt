@@ -1,3 +1,2 @@
--- `Fraction` has the continued fraction by the square, with its bounds, and `Part` what one element adds to the volume kept.
-pub mod Fraction
+-- `Part` has what one element adds to the volume kept.
 pub mod Part

@@ -21,7 +21,7 @@ use Rattle.update.specs.declared.Known.{Known}
 use Rattle.update.specs.Design.{designAt}
 use Rattle.update.specs.Update.{Given, given, trial, reckoned}
 use Rattle.update.specs.Steps.{lowest, infinity, usual, orderly, more, off, Knows}
-use Rattle.pair.proofs.Order.{positive-finite, lt-of-lt-of-le, lt-of-le-of-lt, finite-of-inverse, positive-of-tests}
+use Rattle.lanes.proofs.Order.{positive-finite, lt-of-lt-of-le, lt-of-le-of-lt, finite-of-inverse, positive-of-tests}
 use Rattle.update.proofs.Falls.{Orderly, below-settled, above-settled}
 
 infinity-is : infinity ≡ inf false

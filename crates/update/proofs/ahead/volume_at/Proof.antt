@@ -10,7 +10,7 @@ use Rattle.oc.specs.declared.kept.Rule.the-variants.{Sharpened}
 use Rattle.oc.specs.Kept.{keptOf}
 use Rattle.update.specs.Update.{Given, given, trial, reckoned}
 use Rattle.update.proofs.Loops.{wf-at}
-use Rattle.pair.proofs.Same.{eq-same}
+use Rattle.lanes.proofs.Same.{eq-same}
 use Rattle.update.proofs.ahead.volume_at.Statement.{statement}
 use Rattle.update.proofs.ahead.volume_at.Tie as tie
 

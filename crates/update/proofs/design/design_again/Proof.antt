@@ -13,7 +13,7 @@ use Rattle.ieee.proofs.Basic.{holds}
 use Rattle.oc.proofs.Filled.{unwritten, stored, filled}
 use Rattle.update.specs.Design.{nextOf, designAt}
 use Rattle.update.proofs.Copied.{tabulate-getD}
-use Rattle.pair.proofs.Same.{eq-same, tabulate-same}
+use Rattle.lanes.proofs.Same.{eq-same, tabulate-same}
 use Rattle.update.proofs.design.design_again.Statement.{statement}
 use Rattle.update.proofs.design.design_again.Tie as tie
 

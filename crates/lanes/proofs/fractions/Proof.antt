@@ -1,10 +1,10 @@
--- `pair::fractions` meets its contract: by the bounds where they meet, else turn by turn. Assumes nothing.
+-- `lanes::fractions` meets its contract: by the bounds where they meet, else turn by turn. Assumes nothing.
 use borrow.Author.Needs.{needs}
 use native.Mathlib.Omega.{arith}
 use lib.Ieee.{ofBits, ofInt}
-use Rattle.pair.proofs.Squeeze.{fraction-none, met}
-use Rattle.pair.proofs.fractions.Statement.{statement}
-use Rattle.pair.proofs.fractions.Tie as tie
+use Rattle.lanes.proofs.Squeeze.{fraction-none, met}
+use Rattle.lanes.proofs.fractions.Statement.{statement}
+use Rattle.lanes.proofs.fractions.Tie as tie
 
 all-small-requires : tie.Need-all-small-requires
 all-small-requires c κs = search needs

@@ -1,9 +1,9 @@
--- `pair::all_small` meets its contract. Assumes nothing.
+-- `lanes::all_small` meets its contract. Assumes nothing.
 use borrow.Author.Needs.{needs}
 use mathlib.Core.Path.{sym, _∙_}
-use Rattle.pair.proofs.Laws.{eight}
-use Rattle.pair.proofs.all_small.Statement.{statement}
-use Rattle.pair.proofs.all_small.Tie as tie
+use Rattle.lanes.proofs.Laws.{eight}
+use Rattle.lanes.proofs.all_small.Statement.{statement}
+use Rattle.lanes.proofs.all_small.Tie as tie
 
 small-requires : tie.Need-small-requires
 small-requires c κs = search needs

@@ -17,9 +17,9 @@ use Rattle.ieee.specs.Basic.{one64}
 use Rattle.ieee.specs.Tanh.{whole64, lambert}
 use Rattle.ieee.proofs.Basic.{holds}
 use Rattle.ieee.proofs.Order.{plusZero, le-parts, le-transitive, le-reflexive}
-use Rattle.pair.specs.Fraction.{fraction, smallOf, sixtyFour, Between}
-use Rattle.pair.proofs.Order.{Plus, Finite, positive-finite, finite-plus, plus-above, lt-of-le-of-lt, round-plus, add-grows, div-plus, div-falls, positive-of-tests}
-use Rattle.pair.proofs.Same.{one-float}
+use Rattle.lanes.specs.Fraction.{fraction, smallOf, sixtyFour, Between}
+use Rattle.lanes.proofs.Order.{Plus, Finite, positive-finite, finite-plus, plus-above, lt-of-le-of-lt, round-plus, add-grows, div-plus, div-falls, positive-of-tests}
+use Rattle.lanes.proofs.Same.{one-float}
 
 -- ---- the fraction
 pub fraction-none : (q : Float) → whole64 63 ≡ fraction q 0

@@ -1,8 +1,8 @@
--- `pair::tanh_each` meets its contract. Assumes nothing.
+-- `lanes::tanh_each` meets its contract. Assumes nothing.
 use borrow.Author.Needs.{needs}
-use Rattle.pair.proofs.Laws.{turn-over}
-use Rattle.pair.proofs.tanh_each.Statement.{statement}
-use Rattle.pair.proofs.tanh_each.Tie as tie
+use Rattle.lanes.proofs.Laws.{turn-over}
+use Rattle.lanes.proofs.tanh_each.Statement.{statement}
+use Rattle.lanes.proofs.tanh_each.Tie as tie
 
 fractions-requires : tie.Need-fractions-requires
 fractions-requires c κs = search needs

@@ -1,4 +1,4 @@
--- `pair::narrowed` meets its contract. The invariant: each pair of bounds holds after the turns gone through. Assumes nothing.
+-- `lanes::narrowed` meets its contract. The invariant: each pair of bounds holds after the turns gone through. Assumes nothing.
 use borrow.Author.Needs.{needs}
 use mathlib.Core.Path.{_≡_, subst}
 use Prim.Native.Nat.{ℕ, _-_, _*_, _≤_, _<_}
@@ -7,10 +7,10 @@ use native.Mathlib.Omega.{arith}
 use lib.Dec.{le→leb}
 use lib.Ieee.{inFloat}
 use Rattle.ieee.specs.Basic.{one64}
-use Rattle.pair.specs.Fraction.{fraction, sixtyFour, Between}
-use Rattle.pair.proofs.Squeeze.{step, begun}
-use Rattle.pair.proofs.narrowed.Statement.{statement}
-use Rattle.pair.proofs.narrowed.Tie as tie
+use Rattle.lanes.specs.Fraction.{fraction, sixtyFour, Between}
+use Rattle.lanes.proofs.Squeeze.{step, begun}
+use Rattle.lanes.proofs.narrowed.Statement.{statement}
+use Rattle.lanes.proofs.narrowed.Tie as tie
 
 abbrev Inv-loop : tie.InvT-loop
 Inv-loop a b c d e f g h start stop k p₀ q₀ r₀ s₀ t₀ u₀ v₀ w₀ p2₀ q2₀ r2₀ s2₀ t2₀ u2₀ v2₀ w2₀ i₀ p q r s t u v w p2 q2 r2 s2 t2 u2 v2 w2 i = 

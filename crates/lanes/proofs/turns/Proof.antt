@@ -1,4 +1,4 @@
--- `pair::turns` meets its contract, each of the eight as `ieee::tanh`. The invariant: each is its `fraction` of the turns gone through. Assumes nothing.
+-- `lanes::turns` meets its contract, each of the eight as `ieee::tanh`. The invariant: each is its `fraction` of the turns gone through. Assumes nothing.
 use borrow.Author.Needs.{needs}
 use mathlib.Core.Path.{_≡_, ap, _∙_}
 use Prim.Native.Nat.{_-_, _*_, _≤_}
@@ -6,10 +6,10 @@ use native.Mathlib.Nat.{le-antisymm}
 use native.Mathlib.Omega.{arith}
 use lib.Dec.{le→leb}
 use lib.Ieee.{inFloat}
-use Rattle.pair.specs.Fraction.{fraction}
-use Rattle.pair.proofs.Squeeze.{fraction-more}
-use Rattle.pair.proofs.turns.Statement.{statement}
-use Rattle.pair.proofs.turns.Tie as tie
+use Rattle.lanes.specs.Fraction.{fraction}
+use Rattle.lanes.proofs.Squeeze.{fraction-more}
+use Rattle.lanes.proofs.turns.Statement.{statement}
+use Rattle.lanes.proofs.turns.Tie as tie
 
 abbrev Inv-loop : tie.InvT-loop
 Inv-loop a b c d e f g h p q r s t u v w from p₀ q₀ r₀ s₀ t₀ u₀ v₀ w₀ i₀ p' q' r' s' t' u' v' w' i = (i ≤ 31) × (p' ≡ fraction a i) × (q' ≡ fraction b i) × (r' ≡ fraction c i) × (s' ≡ fraction d i) × (t' ≡ fraction e i) × (u' ≡ fraction f i) × (v' ≡ fraction g i) × (w' ≡ fraction h i)
