@@ -141,15 +141,13 @@ module _ (q : Float) (s : smallOf q ≡ true) where
   -- at every turn it lies between 1 and 64
   within : (i : ℕ) → i ≤ 31 → (T (le one64 (fraction q i)) × T (le (fraction q i) sixtyFour))
   within zero h =
-      let e = fraction-none q in
-      (
+      let e = fraction-none q in (
         subst (λ (v : Float). T (le one64 v)) e (subst (λ (v : Float). T (le v (whole64 63))) one-is (whole-mono 1 63 (omega arith))),
         subst (λ (v : Float). T (le v sixtyFour)) e (subst (λ (v : Float). T (le (whole64 63) v)) sixty-four-is (whole-mono 63 64 (omega arith))),
       )
   within (suc i) h =
       let w = within i (omega arith) in
-      let e = fraction-more q (fraction q i) i refl ∙ ap (fraction q) (add-one i) in
-      (
+      let e = fraction-more q (fraction q i) i refl ∙ ap (fraction q) (add-one i) in (
         subst (λ (v : Float). T (le one64 v)) e (turn-least i (omega arith) (fraction q i) (w .0) (w .1)),
         subst (λ (v : Float). T (le v sixtyFour)) e (turn-most i (omega arith) (fraction q i) (w .0) (w .1)),
       )

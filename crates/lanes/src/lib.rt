@@ -231,10 +231,46 @@ fn fractions(a: f64, b: f64, c: f64, d: f64, e: f64, f: f64, g: f64, h: f64) -> 
         let n = narrowed(a, b, c, d, e, f, g, h, at.start, at.stop);
         let r = n.low;
         if agree(r, n.high) {
-            return turns(a, b, c, d, e, f, g, h, r.a, r.b, r.c, r.d, r.e, r.f, r.g, r.h, at.stop);
+            return turns(
+                a,
+                b,
+                c,
+                d,
+                e,
+                f,
+                g,
+                h,
+                r.a,
+                r.b,
+                r.c,
+                r.d,
+                r.e,
+                r.f,
+                r.g,
+                r.h,
+                at.stop,
+            );
         }
     }
-    turns(a, b, c, d, e, f, g, h, 63.0, 63.0, 63.0, 63.0, 63.0, 63.0, 63.0, 63.0, 0)
+    turns(
+        a,
+        b,
+        c,
+        d,
+        e,
+        f,
+        g,
+        h,
+        63.0,
+        63.0,
+        63.0,
+        63.0,
+        63.0,
+        63.0,
+        63.0,
+        63.0,
+        0,
+    )
 }
 
 // `ieee::tanh` of eight numbers.

@@ -47,7 +47,16 @@ fn bent(beta: f64, v: f64) -> f64
 }
 
 // The same of element e's filtered values.
-fn place(beta: f64, starts: &[u32], near: &[u32], coef: &[f64], x: &[f64], y: &[f64], n: usize, e: usize) -> Two
+fn place(
+    beta: f64,
+    starts: &[u32],
+    near: &[u32],
+    coef: &[f64],
+    x: &[f64],
+    y: &[f64],
+    n: usize,
+    e: usize,
+) -> Two
     requires { ⌜ Wf (now starts) (now near) (now coef) n (length (now x)) × (length (now y) ≡ length (now x)) × (e < n) ⌝ }
     ensures { λ r. ⌜ (r .a ≡ bentOf beta (rowSum (now (near .entry)) (now (coef .entry)) (now (x .entry)) (getD (now (starts .entry)) e 0) (getD (now (starts .entry)) (e + 1) 0))) × (r .b ≡ bentOf beta (rowSum (now (near .entry)) (now (coef .entry)) (now (y .entry)) (getD (now (starts .entry)) e 0) (getD (now (starts .entry)) (e + 1) 0))) ⌝ }
 {

@@ -15,7 +15,7 @@ use Rattle.ieee.proofs.Order.{le-number, le-transitive}
 use Rattle.ieee.proofs.Bounds.{max-either, min-either, max-left, max-right, min-left, min-right, raised-lowered, add-above, sub-below}
 use Rattle.oc.specs.Start.{xMin}
 use Rattle.lanes.proofs.Order.{number-left}
-use Rattle.update.specs.Design.{limited, nextOf, designAt}
+use Rattle.step.specs.Design.{limited, nextOf, designAt}
 use Rattle.update.specs.Steps.{lowest}
 use Rattle.update.specs.Update.{Given, Stand, trial, first, raises, raised, halves, halved, whileTo, raisedAll, updated}
 

@@ -20,7 +20,7 @@ use Rattle.oc.specs.declared.kept.Rule.the-variants.{Straight}
 use Rattle.oc.specs.Start.{xMin}
 use Rattle.oc.specs.Record.{dot}
 use Rattle.oc.specs.Kept.{keptOf}
-use Rattle.update.specs.Design.{grown, limited, nextOf, designAt}
+use Rattle.step.specs.Design.{grown, limited, nextOf, designAt}
 use Rattle.update.specs.Update.{Given, trial, reckoned}
 use Rattle.lanes.proofs.Order.{Plus, Finite, finite-plus, plus-above, positive-finite, lt-of-lt-of-le, add-plus, add-grows, mul-plus, mul-rises, div-plus, div-falls, sqrt-plus, max-rises, min-rises, farther-above, farther-below}
 use Rattle.update.proofs.Bounds.{Old, Move, old-positive, lo, hi, bounds, least-lo, limited-bounded}

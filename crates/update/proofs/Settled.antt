@@ -18,7 +18,7 @@ use Rattle.oc.specs.Start.{xMin}
 use Rattle.oc.specs.Record.{dot}
 use Rattle.oc.specs.Kept.{keptOf}
 use Rattle.update.specs.declared.Known.{Known}
-use Rattle.update.specs.Design.{designAt}
+use Rattle.step.specs.Design.{designAt}
 use Rattle.update.specs.Update.{Given, given, trial, reckoned}
 use Rattle.update.specs.Steps.{lowest, infinity, usual, orderly, more, off, Knows}
 use Rattle.lanes.proofs.Order.{positive-finite, lt-of-lt-of-le, lt-of-le-of-lt, finite-of-inverse, positive-of-tests}

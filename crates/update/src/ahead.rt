@@ -85,8 +85,8 @@ fn volume_at(
             two,
         };
     }
-    let p = crate::design::design_again(x, gain, passive, m, rate, design);
-    let q = crate::design::design_again(x, gain, passive, m, next, work);
+    let p = step::design_again(x, gain, passive, m, rate, design);
+    let q = step::design_again(x, gain, passive, m, next, work);
     if p & q {
         return Ahead {
             kept: one,
@@ -166,7 +166,25 @@ fn search(
             target,
         );
         at = volume_at(
-            x, gain, dv, passive, m, target, tolerance, beta, starts, near, coef, volumes, mid, next, at.next, at.one, at.two, design, work,
+            x,
+            gain,
+            dv,
+            passive,
+            m,
+            target,
+            tolerance,
+            beta,
+            starts,
+            near,
+            coef,
+            volumes,
+            mid,
+            next,
+            at.next,
+            at.one,
+            at.two,
+            design,
+            work,
         );
         let more = at.kept > target;
         off = ieee::abs(at.kept - target) > tolerance;
@@ -210,8 +228,8 @@ pub fn sharpened(
 {
     if table::well(starts, near, coef, x.len(), x.len()) {
         let next = 0.5 * first;
-        crate::design::design_at(x, gain, passive, m, first, design);
-        crate::design::design_at(x, gain, passive, m, next, work);
+        step::design_at(x, gain, passive, m, first, design);
+        step::design_at(x, gain, passive, m, next, work);
         let v = pair::kept(
             beta,
             starts,
@@ -233,9 +251,24 @@ pub fn sharpened(
             two: v.b,
         };
         let t = search(
-            x, gain, dv, passive, m, target, tolerance, beta, starts, near, coef, volumes, first, begun, design, work,
+            x,
+            gain,
+            dv,
+            passive,
+            m,
+            target,
+            tolerance,
+            beta,
+            starts,
+            near,
+            coef,
+            volumes,
+            first,
+            begun,
+            design,
+            work,
         );
-        crate::design::design_at(x, gain, passive, m, t.rate, design);
+        step::design_at(x, gain, passive, m, t.rate, design);
         return Rates {
             low: t.low,
             high: t.high,

@@ -13,7 +13,7 @@ ends-requires : tie.Need-ends-requires
 ends-requires c κs = search needs
 
 narrowed-requires : tie.Need-narrowed-requires
-narrowed-requires c κs = 
+narrowed-requires c κs =
     let s = c .before .before .«all-small» .ensures (c .before .if1 .taken) in
     (c .ends .ensures .0, c .ends .ensures .1, s .0, s .1, s .2, s .3, s .4, s .5, s .6, s .7)
 
@@ -21,7 +21,7 @@ agree-requires : tie.Need-agree-requires
 agree-requires c κs = search needs
 
 turns-requires : tie.Need-turns-requires
-turns-requires c κs = 
+turns-requires c κs =
     let a = c .before .before .before .before .before .before .before .args in
     let n = c .before .before .before .narrowed in
     let w = c .before .agree .ensures (c .if2 .taken) in
@@ -33,7 +33,7 @@ returns c = search needs
 
 turns-requires-2 : tie.Need-turns-requires-2
 unfolding ofBits ofInt
-turns-requires-2 c κs = 
+turns-requires-2 c κs =
     let a = c .before .before .args in
     (omega arith, fraction-none (a .a), fraction-none (a .b), fraction-none (a .c), fraction-none (a .d), fraction-none (a .e), fraction-none (a .f), fraction-none (a .g), fraction-none (a .h))
 

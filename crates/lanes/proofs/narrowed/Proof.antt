@@ -13,7 +13,7 @@ use Rattle.lanes.proofs.narrowed.Statement.{statement}
 use Rattle.lanes.proofs.narrowed.Tie as tie
 
 abbrev Inv-loop : tie.InvT-loop
-Inv-loop a b c d e f g h start stop k p₀ q₀ r₀ s₀ t₀ u₀ v₀ w₀ p2₀ q2₀ r2₀ s2₀ t2₀ u2₀ v2₀ w2₀ i₀ p q r s t u v w p2 q2 r2 s2 t2 u2 v2 w2 i = 
+Inv-loop a b c d e f g h start stop k p₀ q₀ r₀ s₀ t₀ u₀ v₀ w₀ p2₀ q2₀ r2₀ s2₀ t2₀ u2₀ v2₀ w2₀ i₀ p q r s t u v w p2 q2 r2 s2 t2 u2 v2 w2 i =
     (start < i)
     × (i ≤ stop)
     × Between (fraction a i) p p2
@@ -42,7 +42,7 @@ add-i : tie.Need-add-i Inv-loop μ-loop
 add-i c = search needs
 
 loop-holds : tie.Need-loop-holds Inv-loop μ-loop
-loop-holds c = 
+loop-holds c =
     let s = c .before in
     let a = s .args in
     let p = s .pre in
@@ -66,7 +66,7 @@ loop-less : tie.Need-loop-less Inv-loop μ-loop
 loop-less c = search needs
 
 loop-again : tie.Need-loop-again Inv-loop μ-loop
-loop-again c = 
+loop-again c =
     let l = c .before .before .loop in
     let a = c .before .before .before .before .args in
     let p = c .before .before .before .before .pre in
@@ -74,7 +74,7 @@ loop-again c =
     (omega arith, omega arith, step (a .a) (p .2) (l .i) h (l .p) (l .p2) (l .inv .2), step (a .b) (p .3) (l .i) h (l .q) (l .q2) (l .inv .3), step (a .c) (p .4) (l .i) h (l .r) (l .r2) (l .inv .4), step (a .d) (p .5) (l .i) h (l .s) (l .s2) (l .inv .5), step (a .e) (p .6) (l .i) h (l .t) (l .t2) (l .inv .6), step (a .f) (p .7) (l .i) h (l .u) (l .u2) (l .inv .7), step (a .g) (p .8) (l .i) h (l .v) (l .v2) (l .inv .8), step (a .h) (p .9) (l .i) h (l .w) (l .w2) (l .inv .9))
 
 returns : tie.Need-returns Inv-loop μ-loop
-returns c = 
+returns c =
     let l = c .before .loop in
     let a = c .before .before .before .args in
     let e : l .i ≡ a .stop = le-antisymm (l .inv .1) (c .loop-test .left) in

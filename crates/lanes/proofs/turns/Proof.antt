@@ -37,13 +37,13 @@ loop-less : tie.Need-loop-less Inv-loop μ-loop
 loop-less c = search needs
 
 loop-again : tie.Need-loop-again Inv-loop μ-loop
-loop-again c = 
+loop-again c =
     let l = c .before .before .loop in
     let a = c .before .before .before .args in
     (omega arith, fraction-more (a .a) (l .p) (l .i) (l .inv .1), fraction-more (a .b) (l .q) (l .i) (l .inv .2), fraction-more (a .c) (l .r) (l .i) (l .inv .3), fraction-more (a .d) (l .s) (l .i) (l .inv .4), fraction-more (a .e) (l .t) (l .i) (l .inv .5), fraction-more (a .f) (l .u) (l .i) (l .inv .6), fraction-more (a .g) (l .v) (l .i) (l .inv .7), fraction-more (a .h) (l .w) (l .i) (l .inv .8))
 
 returns : tie.Need-returns Inv-loop μ-loop
-returns c = 
+returns c =
     let l = c .before .loop in
     let a = c .before .before .args in
     let e = le-antisymm (l .inv .0) (c .loop-test .left) in

@@ -38,13 +38,12 @@ add-loop : tie.Need-add-loop Inv-loop μ-loop Inv-loop2 μ-loop2
 add-loop c = search needs
 
 four-requires : tie.Need-four-requires Inv-loop μ-loop Inv-loop2 μ-loop2
-four-requires c κs = 
+four-requires c κs =
     let s = c .before .before .before .before .before .before .before .before .before .before .before in
     let a = s .args in
     let e = c .before .before .before .«at-steepness» .ensures in
     let n = c .before .before .shorter .ensures in
-    let l = c .before .loop in
-    (
+    let l = c .before .loop in (
       (e .1 ∙ ap belowOf (sym (e .0)), e .2 ∙ ap wholeOf (sym (e .0))),
       (
         (s .pre .0, s .pre .1, omega (arith, n), omega (arith, n)),
@@ -62,11 +61,10 @@ loop-less : tie.Need-loop-less Inv-loop μ-loop Inv-loop2 μ-loop2
 loop-less c = search needs
 
 loop-again : tie.Need-loop-again Inv-loop μ-loop Inv-loop2 μ-loop2
-loop-again c = 
+loop-again c =
     let a = c .before .before .before .before .before .before .before .before .before .before .before .before .args in
     let e = c .before .before .before .before .«at-steepness» .ensures .0 in
-    let l = c .before .before .loop in
-    (
+    let l = c .before .before .loop in (
       omega arith,
       c .four .ensures .0 ∙ part-at (a .beta) (now (a .starts)) (now (a .near)) (now (a .coef)) (now (a .volumes)) (now (a .passive)) (now (a .x)) _ (l .e + 4) e,
       c .four .ensures .1 ∙ part-at (a .beta) (now (a .starts)) (now (a .near)) (now (a .coef)) (now (a .volumes)) (now (a .passive)) (now (a .y)) _ (l .e + 4) e,
@@ -76,13 +74,12 @@ loop2-holds : tie.Need-loop2-holds Inv-loop μ-loop Inv-loop2 μ-loop2
 loop2-holds c = c .before .loop .inv
 
 one-requires : tie.Need-one-requires Inv-loop μ-loop Inv-loop2 μ-loop2
-one-requires c κs = 
+one-requires c κs =
     let s = c .before .before .before .before .before .before .before .before .before .before .before .before .before in
     let a = s .args in
     let e = c .before .before .before .before .before .«at-steepness» .ensures in
     let n = c .before .before .before .before .shorter .ensures in
-    let l = c .before .loop2 in
-    (
+    let l = c .before .loop2 in (
       (e .1 ∙ ap belowOf (sym (e .0)), e .2 ∙ ap wholeOf (sym (e .0))),
       (
         (s .pre .0, s .pre .1, omega (arith, n), omega (arith, n)),
@@ -100,22 +97,20 @@ loop2-less : tie.Need-loop2-less Inv-loop μ-loop Inv-loop2 μ-loop2
 loop2-less c = search needs
 
 loop2-again : tie.Need-loop2-again Inv-loop μ-loop Inv-loop2 μ-loop2
-loop2-again c = 
+loop2-again c =
     let a = c .before .before .before .before .before .before .before .before .before .before .before .before .before .before .args in
     let e = c .before .before .before .before .before .before .«at-steepness» .ensures .0 in
-    let l = c .before .before .loop2 in
-    (
+    let l = c .before .before .loop2 in (
       omega arith,
       c .one .ensures .0 ∙ part-at (a .beta) (now (a .starts)) (now (a .near)) (now (a .coef)) (now (a .volumes)) (now (a .passive)) (now (a .x)) _ (l .e + 1) e,
       c .one .ensures .1 ∙ part-at (a .beta) (now (a .starts)) (now (a .near)) (now (a .coef)) (now (a .volumes)) (now (a .passive)) (now (a .y)) _ (l .e + 1) e,
     )
 
 returns : tie.Need-returns Inv-loop μ-loop Inv-loop2 μ-loop2
-returns c = 
+returns c =
     let a = c .before .before .before .before .before .before .before .before .before .before .before .before .before .args in
     let l = c .before .loop2 in
-    let n = le-antisymm (l .inv .0) (omega arith) ∙ c .before .before .before .before .shorter .ensures in
-    (
+    let n = le-antisymm (l .inv .0) (omega arith) ∙ c .before .before .before .before .shorter .ensures in (
       l .inv .1 ∙ ap (sumTo _) n ∙ parts-are (a .beta) (now (a .starts)) (now (a .near)) (now (a .coef)) (now (a .volumes)) (now (a .passive)) (now (a .x)),
       l .inv .2 ∙ ap (sumTo _) n ∙ parts-are (a .beta) (now (a .starts)) (now (a .near)) (now (a .coef)) (now (a .volumes)) (now (a .passive)) (now (a .y)),
     )

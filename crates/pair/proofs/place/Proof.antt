@@ -31,7 +31,7 @@ cast-to : tie.Need-cast-to
 cast-to c = omega (arith, c .shared-slice-known7 .given (c .before .before .before .before .before .before .before .args .e + 1))
 
 row-requires : tie.Need-row-requires
-row-requires c κs = 
+row-requires c κs =
     let s = c .before .before .before .before .before .before .before in
     (wf-row (now (s .args .starts)) (now (s .args .near)) (now (s .args .coef)) (s .args .n) _ (s .pre .0) (s .args .e) (s .pre .2), s .pre .1)
 
@@ -42,7 +42,7 @@ bent-requires-2 : tie.Need-bent-requires-2
 bent-requires-2 c κs = search needs
 
 returns : tie.Need-returns
-returns c = 
+returns c =
     let r = c .before .before .row .ensures in
     (c .before .bent .ensures ∙ ap (bent _) (r .0), c .bent2 .ensures ∙ ap (bent _) (r .1))
 

@@ -62,7 +62,7 @@ loop-less c = search needs
 
 loop-again : tie.Need-loop-again Inv-loop μ-loop
 unfolding product
-loop-again c = 
+loop-again c =
     let l = c .before .before .before .before .before .loop in
     let s = c .before .before .before .before .before .before in
     let a = s .args in
@@ -75,7 +75,7 @@ loop-again c =
 
 returns : tie.Need-returns Inv-loop μ-loop
 unfolding rowSum
-returns c = 
+returns c =
     let a = c .before .before .args in
     let w = c .before .before .pre .0 in
     let l = c .before .loop in

@@ -5,7 +5,8 @@ use lib.Ieee.{Float, lt, binary64, mul}
 use denote.Ref.{now}
 use Rattle.lists.specs.Lists.{choose, zero64}
 use Rattle.ieee.specs.Basic.{one64}
-use Rattle.update.specs.Update.{tenThousand, Given, given, firstRate}
+use Rattle.step.specs.Design.{tenThousand}
+use Rattle.update.specs.Update.{Given, given, firstRate}
 use Rattle.update.proofs.Stages.{done, gain-is}
 use borrow.Author.Needs.{needs}
 use Rattle.update.proofs.update.Statement.{statement}

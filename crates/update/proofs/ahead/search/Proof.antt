@@ -22,7 +22,7 @@ abbrev rest : Given → Float → Float → Float → ℕ → Stand
 rest g low high rate passes = whileTo (halves g) (halved g) (200 - passes) (standAt g low high rate passes)
 
 abbrev Inv-loop : tie.InvT-loop
-Inv-loop x gain dv passive m target tolerance beta starts near coef volumes first design₀ work₀ low₀ most₀ high₀ least₀ rate₀ at₀ off₀ passes₀ design work low most high least rate at off passes = 
+Inv-loop x gain dv passive m target tolerance beta starts near coef volumes first design₀ work₀ low₀ most₀ high₀ least₀ rate₀ at₀ off₀ passes₀ design work low most high least rate at off passes =
     (passes ≤ 200)
     × (length design ≡ length design₀)
     × (length work ≡ length work₀)
@@ -47,7 +47,7 @@ abs-requires c κs = search needs
 
 loop-holds : tie.Need-loop-holds Inv-loop μ-loop
 unfolding offAt
-loop-holds c = 
+loop-holds c =
     let a = c .before .before .before .before .before .before .before .before .before .before .before .before .args in
     let q = c .before .before .before .before .before .before .before .before .before .before .before .before .pre .1 .1 in
     (lit≤ tt, refl, refl, ap (lt (a .tolerance)) (c .abs .ensures ∙ ap (λ (v : Float). absOf (sub binary64 v (a .target))) (q .0)), q .0, q .1, q .2, q .3, refl)
@@ -59,7 +59,7 @@ same-length-2 : tie.Need-same-length-2 Inv-loop μ-loop
 same-length-2 c = c .before .before .loop .inv .2
 
 returns : tie.Need-returns Inv-loop μ-loop
-returns c = 
+returns c =
     let l = c .before .before .loop in
     (sym (search-none (G (c .before .before .before .before .before .before .before .before .before .before .before .before .before .before .before)) (l .low) (l .high) (l .rate) (l .passes) (c .if1 .taken)) ∙ l .inv .8, l .inv .4)
 
@@ -67,7 +67,7 @@ likely-requires : tie.Need-likely-requires Inv-loop μ-loop
 likely-requires c κs = search needs
 
 volume-at-requires : tie.Need-volume-at-requires Inv-loop μ-loop
-volume-at-requires c κs = 
+volume-at-requires c κs =
     let p = c .before .before .before .before .before .before .before .before .before .before .before .before .before .before .before .before .before .before .pre in
     let l = c .before .before .before .before .before .loop .inv in
     ((p .0 .0, p .0 .1, l .1 ∙ p .0 .2, l .2 ∙ p .0 .3), (p .1 .0, (l .5, l .6, l .7)))
@@ -95,7 +95,7 @@ loop-less c = pass-left (c .before .before .before .before .before .before .befo
 
 loop-again : tie.Need-loop-again Inv-loop μ-loop
 unfolding offAt moreAt
-loop-again c = 
+loop-again c =
     let l = c .before .before .before .before .before .before .before .before .before .before .before .before .before .before .before .before .before .loop in
     let a = c .before .before .before .before .before .before .before .before .before .before .before .before .before .before .before .before .before .before .before .before .before .before .before .before .before .before .before .before .before .before .args in
     let t = c .before .before .before .before .before .before .before .before .before .before .before .before .before .before .before .before .«loop-test» .taken in
@@ -118,7 +118,7 @@ same-length-4 : tie.Need-same-length-4 Inv-loop μ-loop
 same-length-4 c = c .before .loop .inv .2
 
 returns-2 : tie.Need-returns-2 Inv-loop μ-loop
-returns-2 c = 
+returns-2 c =
     let l = c .before .loop in
     (sym (search-over (G (c .before .before .before .before .before .before .before .before .before .before .before .before .before .before)) (l .low) (l .high) (l .rate) (l .passes) (sym (ap (λ (u : Bool). u && ltb (l .passes) 200) (l .inv .3)) ∙ c .«loop-test» .left) (l .inv .0)) ∙ l .inv .8, l .inv .4)
 

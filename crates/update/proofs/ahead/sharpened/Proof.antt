@@ -24,7 +24,7 @@ design-at-requires-2 : tie.Need-design-at-requires-2
 design-at-requires-2 c κs = search needs
 
 kept-requires : tie.Need-kept-requires
-kept-requires c κs = 
+kept-requires c κs =
     let p = c .before .before .before .before .before .before .before .before .before .before .before .before .before .before .before .before .before .before .before .before .before .before .pre .0 in
     let d = c .before .before .before .before .before .before .before .before .«design-at» .kept .1 .1 .1 .1 .1 .0 ∙ p .2 in
     let w = c .before .before .before .before .«design-at2» .kept .1 .1 .1 .1 .1 .0 ∙ p .3 in
@@ -44,7 +44,7 @@ returns c = λ h. absurd (omega (arith, c .none .ensures))
 
 search-requires : tie.Need-search-requires
 unfolding trial reckoned keptOf
-search-requires c κs = 
+search-requires c κs =
     let a = c .before .before .before .before .before .before .before .before .before .before .before .before .before .before .before .before .before .before .before .before .before .before .before .before .before .before .before .args in
     let p = c .before .before .before .before .before .before .before .before .before .before .before .before .before .before .before .before .before .before .before .before .before .before .before .before .before .before .before .pre .0 in
     let g : Given = given (now (a .x)) (now (a .gain)) (now (a .dv)) (now (a .passive)) (a .m) (a .target) (a .tolerance) (Sharpened (a .beta)) (now (a .starts)) (now (a .near)) (now (a .coef)) (now (a .volumes)) in
@@ -54,7 +54,7 @@ search-requires c κs =
     ((p .0, p .1, d .kept .1 .1 .1 .1 .1 .0 ∙ p .2, w .kept .1 .1 .1 .1 .1 .0 ∙ p .3), (well-wf _ _ _ _ _ (sym (c .before .before .before .before .before .before .before .before .before .before .before .before .before .before .before .before .well .ensures) ∙ c .before .before .before .before .before .before .before .before .before .before .before .before .before .before .before .if1 .taken), (k .0 ∙ ap (reckoned g) (d .ensures), k .0, k .1, w .ensures)))
 
 design-at-requires-3 : tie.Need-design-at-requires-3
-design-at-requires-3 c κs = 
+design-at-requires-3 c κs =
     let p = c .before .before .before .before .before .before .before .before .before .before .before .before .before .before .before .before .before .before .before .before .before .before .before .before .before .before .before .before .before .before .before .before .before .pre .0 in
     (p .0, p .1, c .before .before .before .before .before .search .kept .1 .1 .1 .1 .1 .1 .1 .1 .1 .1 .1 .1 .1 .1 .0 ∙ c .before .before .before .before .before .before .before .before .before .before .before .before .before .before .before .before .before .before .before .«design-at» .kept .1 .1 .1 .1 .1 .0 ∙ p .2)
 
@@ -66,7 +66,7 @@ same-length-4 c = search needs
 
 returns-2 : tie.Need-returns-2
 unfolding trial reckoned keptOf more
-returns-2 c = 
+returns-2 c =
     let a = c .before .before .before .before .before .before .before .before .before .before .before .before .before .before .before .before .before .before .before .before .before .before .before .before .before .before .before .before .before .before .before .before .before .before .before .before .args in
     let g : Given = given (now (a .x)) (now (a .gain)) (now (a .dv)) (now (a .passive)) (a .m) (a .target) (a .tolerance) (Sharpened (a .beta)) (now (a .starts)) (now (a .near)) (now (a .coef)) (now (a .volumes)) in
     let k = c .before .before .before .before .before .before .before .before .before .before .before .before .before .kept .ensures .0 ∙ ap (reckoned g) (c .before .before .before .before .before .before .before .before .before .before .before .before .before .before .before .before .before .before .before .before .before .before .«design-at» .ensures) in

@@ -15,7 +15,7 @@ use Rattle.update.proofs.ahead.volume_at.Statement.{statement}
 use Rattle.update.proofs.ahead.volume_at.Tie as tie
 
 returns : tie.Need-returns
-returns c = 
+returns c =
     let s = c .before .before .before .before .before .before .before .before .before .before .before in
     let a = s .args in
     let g : Given = given (now (a .x)) (now (a .gain)) (now (a .dv)) (now (a .passive)) (a .m) (a .target) (a .tolerance) (Sharpened (a .beta)) (now (a .starts)) (now (a .near)) (now (a .coef)) (now (a .volumes)) in
@@ -38,7 +38,7 @@ same-length-2 c = search needs
 
 returns-2 : tie.Need-returns-2
 unfolding trial
-returns-2 c = 
+returns-2 c =
     let s = c .before .before .before .before .before .before .before .before .before .before .before .before .before .before .before .before .before .before .before .before in
     let a = s .args in
     let g : Given = given (now (a .x)) (now (a .gain)) (now (a .dv)) (now (a .passive)) (a .m) (a .target) (a .tolerance) (Sharpened (a .beta)) (now (a .starts)) (now (a .near)) (now (a .coef)) (now (a .volumes)) in
@@ -50,7 +50,7 @@ returns-2 c =
     (one ∙ ap (reckoned g) (d .ensures .0), one, q .1 ∙ ap (reckoned g) (sym (w .ensures .1 (t .1))), w .ensures .0)
 
 kept-requires : tie.Need-kept-requires
-kept-requires c κs = 
+kept-requires c κs =
     let p = c .before .before .before .before .before .before .before .before .before .before .before .before .before .before .before .before .before .before .before .before .before .before .pre in
     let d = c .before .before .before .before .before .before .before .before .before .«design-again» .kept .1 .1 .1 .1 .1 .0 ∙ p .0 .2 in
     let w = c .before .before .before .before .before .«design-again2» .kept .1 .1 .1 .1 .1 .0 ∙ p .0 .3 in
@@ -64,7 +64,7 @@ same-length-4 c = search needs
 
 returns-3 : tie.Need-returns-3
 unfolding trial reckoned keptOf
-returns-3 c = 
+returns-3 c =
     let k = c .kept .ensures in
     let a = c .before .before .before .before .before .before .before .before .before .before .before .before .before .before .before .before .before .before .before .before .before .before .before .args in
     let g : Given = given (now (a .x)) (now (a .gain)) (now (a .dv)) (now (a .passive)) (a .m) (a .target) (a .tolerance) (Sharpened (a .beta)) (now (a .starts)) (now (a .near)) (now (a .coef)) (now (a .volumes)) in

@@ -8,7 +8,7 @@ use lib.ListN.{length, getD}
 use lib.Ieee.{nan, binary64, add, mul}
 use Rattle.lists.specs.Lists.{sumTo}
 use Rattle.lists.proofs.Laws.{sumTo-none, sumTo-more}
-use Rattle.update.specs.Design.{nextOf}
+use Rattle.step.specs.Design.{nextOf}
 use Rattle.update.proofs.Reckoned.{dot-is}
 use Rattle.update.proofs.quick.kept_at.Statement.{statement}
 use Rattle.update.proofs.quick.kept_at.Tie as tie

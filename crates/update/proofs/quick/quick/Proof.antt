@@ -22,7 +22,7 @@ enum-known-rule-2 : tie.Need-enum-known-rule-2
 enum-known-rule-2 c = search needs
 
 sharpened-requires : tie.Need-sharpened-requires
-sharpened-requires c κs = 
+sharpened-requires c κs =
     let a = c .before .before .before .before .before .before .before .before .before .before .before .before .before .before .before .args in
     let p = c .before .before .before .before .before .before .before .before .before .before .before .before .before .before .before .pre in
     let is = ap (λ (r : Rule). firstRate (given (now (a .x)) (now (a .gain)) (now (a .dv)) (now (a .passive)) (a .m) (a .target) (a .tolerance) r (now (a .starts)) (now (a .near)) (now (a .coef)) (now (a .volumes)))) (c .before .before .before .rule2 .given .1) in
@@ -47,7 +47,7 @@ same-length-4 : tie.Need-same-length-4
 same-length-4 c = search needs
 
 returns-2 : tie.Need-returns-2
-returns-2 c = 
+returns-2 c =
     let a = c .before .before .before .before .before .before .before .before .before .before .before .before .before .before .before .before .before .before .before .before .args in
     let is = ap (λ (r : Rule). updated (given (now (a .x)) (now (a .gain)) (now (a .dv)) (now (a .passive)) (a .m) (a .target) (a .tolerance) r (now (a .starts)) (now (a .near)) (now (a .coef)) (now (a .volumes)))) (c .before .before .before .before .before .before .before .before .rule2 .given .1) in
     λ h. c .before .before .before .before .sharpened .ensures h ∙ sym is
