@@ -3,7 +3,7 @@ ghost use mathlib.Core.Path.{_≡_};
 ghost use mathlib.Core.Bool.{not, _||_};
 ghost use lib.ListN.{length};
 ghost use lib.Dec.{eqb, ltb};
-ghost use Rattle.update.specs.Design.{gainsOf};
+ghost use Rattle.step.specs.Design.{gainsOf};
 ghost use Rattle.update.specs.Update.{updated};
 ghost use Rattle.capi.specs.Lent.{refusalOf, unless, left, Used};
 ghost use Rattle.capi.specs.Numbers.{ruleOf, endingNumber, endingFirst, endingSecond, toldOf, refusedWith, answerOf};

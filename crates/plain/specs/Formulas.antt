@@ -15,7 +15,7 @@ use Rattle.oc.specs.Start.{solidVolume, freeVolumes, targetOf, toleranceOf}
 use Rattle.oc.specs.Seen.{seenDensity, seenSlope}
 use Rattle.oc.specs.Slopes.{workSlope, volumeSlope, straightSlope}
 use Rattle.oc.specs.Record.{complianceOf, fractionOf, changeOf, greyOf}
-use Rattle.update.specs.Design.{gainsOf}
+use Rattle.step.specs.Design.{gainsOf}
 use Rattle.update.specs.Update.{Given, Stand, updated}
 
 -- "The steepness runs 1, 2, 4, 8, 16"

@@ -16,7 +16,7 @@ use Rattle.oc.specs.Start.{solidVolume, freeVolumes, targetOf, toleranceOf}
 use Rattle.oc.specs.Slopes.{workSlope, volumeSlope, straightSlope}
 use Rattle.oc.specs.Record.{complianceOf, fractionOf, changeOf, greyOf}
 use Rattle.update.specs.declared.Updated.{Updated}
-use Rattle.update.specs.Design.{gainsOf}
+use Rattle.step.specs.Design.{gainsOf}
 use Rattle.update.specs.Update.{Given, updated, Done}
 use Rattle.plain.specs.Formulas.{Case, sharpness, sumOf, givenAt, updateAt, recordAt}
 use Rattle.plain.specs.Calls.{steepAt}

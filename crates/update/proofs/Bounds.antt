@@ -1,25 +1,23 @@
 -- What holds of every design that an update leaves, whatever its slopes, its rates and the volumes: held elements are 1, free ones lie from 0.001
 -- to 1 and within the move of their old value. The value of an element is raised and then lowered, and the two bounds are in order. Assumes nothing.
 use mathlib.Core.Path.{_≡_, refl, sym, ap, _∙_, subst}
-use mathlib.Core.Bool.{Bool, true, false, not}
+use mathlib.Core.Bool.{Bool, true, false}
 use mathlib.Core.List.{List}
-use Prim.Native.Nat.{ℕ, zero, suc, _+_, _-_, _*_, _≤_, _<_}
+use Prim.Native.Nat.{ℕ, zero, suc, _*_, _<_}
 use native.Mathlib.Nat.{add-comm, mul-comm}
-use native.Mathlib.Omega.{arith}
 use lib.Dec.{T}
 use lib.ListN.{length, getD}
-use lib.Ieee.{Float, nan, inf, fin, Format, binary64, up, down, round, sum, isNan, le, fits, add, sub, ofBits}
+use lib.Ieee.{Float, nan, inf, fin, Format, binary64, up, down, round, sum, le, fits, add, sub, ofBits}
 use lib.Ieee.Positive.{positive, between}
-use Rattle.lists.specs.Lists.{tabulate, choose}
 use Rattle.lists.proofs.Laws.{getD-tabulate, choose-true, choose-false}
 use Rattle.ieee.specs.Basic.{one64, maxOf, minOf}
 use Rattle.ieee.proofs.Order.{le-number, le-transitive}
 use Rattle.ieee.proofs.Bounds.{max-either, min-either, max-left, max-right, min-left, min-right, raised-lowered, add-above, sub-below}
 use Rattle.oc.specs.Start.{xMin}
-use Rattle.update.proofs.Order.{number-left}
-use Rattle.update.specs.Design.{grown, limited, nextOf, designAt}
+use Rattle.lanes.proofs.Order.{number-left}
+use Rattle.step.specs.Design.{limited, nextOf, designAt}
 use Rattle.update.specs.Steps.{lowest}
-use Rattle.update.specs.Update.{Given, Stand, trial, reckoned, first, raises, raised, halves, halved, whileTo, raisedAll, updated}
+use Rattle.update.specs.Update.{Given, Stand, trial, first, raises, raised, halves, halved, whileTo, raisedAll, updated}
 
 -- ---- general
 

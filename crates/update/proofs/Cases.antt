@@ -5,7 +5,7 @@ use lib.Ieee.{Float, nan, binary64, add, sub, div, neg, lt, isNan, ofBits}
 use Rattle.lists.specs.Lists.{choose}
 use Rattle.ieee.specs.Basic.{one64, maxOf, minOf}
 use Rattle.oc.specs.Project.{half}
-use Rattle.update.specs.Design.{gainOf, grown, limited, nextOf}
+use Rattle.step.specs.Design.{gainOf, grown, limited, nextOf}
 
 -- 0.2 and 0.3
 abbrev move : Float

@@ -1,18 +1,17 @@
 -- Without sharpening the volume kept falls, or stays, as the rate rises: each element's value does, so does its share, and so does the sum of the
 -- shares, since every operation on the way keeps the order. So a volume found on one side of the target settles all rates beyond. Assumes nothing.
-use mathlib.Core.Path.{_≡_, refl, sym, ap, _∙_, subst}
+use mathlib.Core.Path.{_≡_, refl, sym, ap, subst}
 use mathlib.Core.Bool.{Bool, true, false, not}
-use mathlib.Core.List.{List}
-use Prim.Native.Nat.{ℕ, zero, suc, _+_, _≤_, _<_, min}
+use Prim.Native.Nat.{ℕ, zero, suc, _<_, min}
 use native.Mathlib.Omega.{arith}
 use lib.Dec.{T}
 use lib.ListN.{length, getD}
-use lib.Ieee.{Float, nan, binary64, add, sub, mul, div, lt, le, isNan, fits, ofBits}
+use lib.Ieee.{Float, nan, binary64, add, sub, mul, div, lt, le, isNan, ofBits}
 use lib.Ieee.Fits.{div-fits}
 use lib.Ieee.Positive.{positive, between}
 use Rattle.lists.specs.Lists.{foldTo, sumTo, choose, zero64}
 use Rattle.lists.proofs.Laws.{getD-tabulate, length-tabulate}
-use Rattle.ieee.specs.Basic.{one64, absOf, maxOf, minOf}
+use Rattle.ieee.specs.Basic.{one64, absOf, maxOf}
 use Rattle.ieee.specs.Sqrt.{sqrtOf}
 use Rattle.ieee.proofs.Order.{le-reflexive, le-transitive, le-number, le-not-lt}
 use Rattle.ieee.proofs.Bounds.{lt-le, not-lt-le, max-right, mul-grows}
@@ -21,9 +20,9 @@ use Rattle.oc.specs.declared.kept.Rule.the-variants.{Straight}
 use Rattle.oc.specs.Start.{xMin}
 use Rattle.oc.specs.Record.{dot}
 use Rattle.oc.specs.Kept.{keptOf}
-use Rattle.update.specs.Design.{grown, limited, nextOf, designAt}
+use Rattle.step.specs.Design.{grown, limited, nextOf, designAt}
 use Rattle.update.specs.Update.{Given, trial, reckoned}
-use Rattle.update.proofs.Order.{Plus, Finite, finite-plus, plus-above, positive-finite, lt-of-lt-of-le, add-plus, add-grows, mul-plus, mul-rises, div-plus, div-falls, sqrt-plus, max-rises, min-rises, farther-above, farther-below}
+use Rattle.lanes.proofs.Order.{Plus, Finite, finite-plus, plus-above, positive-finite, lt-of-lt-of-le, add-plus, add-grows, mul-plus, mul-rises, div-plus, div-falls, sqrt-plus, max-rises, min-rises, farther-above, farther-below}
 use Rattle.update.proofs.Bounds.{Old, Move, old-positive, lo, hi, bounds, least-lo, limited-bounded}
 
 -- ---- sums

@@ -13,7 +13,7 @@ use Rattle.ieee.specs.Basic.{absOf}
 use Rattle.table.specs.Table.{Wf}
 use Rattle.oc.specs.Project.{half}
 use Rattle.oc.specs.Record.{two64}
-use Rattle.update.specs.Design.{sameDesign}
+use Rattle.step.specs.Design.{sameDesign}
 use Rattle.update.specs.Update.{Given, Stand, trial, reckoned, raises, raised, middle, halves, halved, whileTo}
 
 -- a well formed table is so for equal counts

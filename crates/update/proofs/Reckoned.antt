@@ -9,7 +9,7 @@ use lib.Ieee.{Float, nan, binary64, add, mul}
 use Rattle.lists.specs.Lists.{foldTo, sumTo}
 use Rattle.lists.proofs.Laws.{getD-tabulate, length-tabulate}
 use Rattle.oc.specs.Record.{dot}
-use Rattle.update.specs.Design.{nextOf, designAt}
+use Rattle.step.specs.Design.{nextOf, designAt}
 
 -- two sums of equal parts
 sum-same : (u v : ℕ → Float) (n : ℕ) → ((k : ℕ) → k < n → u k ≡ v k) → sumTo u n ≡ sumTo v n

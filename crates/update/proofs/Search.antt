@@ -1,6 +1,6 @@
 -- A turn and an end of the search that `quick` makes: it is the halving of the definition, which stands where its last rate leads. Assumes nothing.
 use mathlib.Core.Path.{_≡_, refl, sym, ap, _∙_}
-use mathlib.Core.Bool.{Bool, true, false, not, _&&_, _||_}
+use mathlib.Core.Bool.{Bool, true, false, _&&_, _||_}
 use mathlib.Core.List.{List, []}
 use Prim.Native.Nat.{ℕ, _+_, _-_, _≤_}
 use lib.Dec.{ltb}
@@ -10,9 +10,8 @@ use Rattle.ieee.specs.Basic.{absOf}
 use Rattle.oc.specs.declared.kept.Rule.the-variants.{Straight}
 use Rattle.oc.specs.Project.{half}
 use Rattle.oc.specs.Kept.{keptOf}
-use Rattle.update.specs.declared.Rates.{Rates}
 use Rattle.update.specs.Update.{Given, Stand, given, trial, reckoned, firstRate, first, raises, raised, middle, halves, halved, whileTo, raisedAll, updated}
-use Rattle.update.specs.Steps.{more, off, standAt, standing}
+use Rattle.update.specs.Steps.{more, off, standAt}
 use Rattle.update.proofs.Loops.{while-off, and-false, halve-more, halve-none, halve-over}
 
 module _ (g : Given) (low high rate : Float) (passes : ℕ) where

@@ -1,12 +1,11 @@
 -- What the tests of `quick` show: that the volume falls as the rate rises, and which rates two of them settle. Assumes nothing.
-use mathlib.Core.Path.{_≡_, refl, sym, ap, _∙_, subst}
+use mathlib.Core.Path.{_≡_, refl, sym, ap, _∙_}
 use mathlib.Core.Bool.{Bool, true, false, not, _&&_, true≢false}
 use mathlib.Core.List.{List, []}
 use Prim.Native.Nat.{ℕ, _<_}
 use lib.Dec.{T}
 use lib.ListN.{length, getD}
 use lib.Ieee.{Float, nan, inf, binary64, add, sub, div, lt, le, fits, ofBits}
-use lib.Ieee.Bits.{is-true}
 use lib.Ieee.Positive.{positive}
 use borrow.Author.Tests.{not-true}
 use Rattle.lists.specs.Lists.{anyTo, choose, zero64}
@@ -19,10 +18,10 @@ use Rattle.oc.specs.Start.{xMin}
 use Rattle.oc.specs.Record.{dot}
 use Rattle.oc.specs.Kept.{keptOf}
 use Rattle.update.specs.declared.Known.{Known}
-use Rattle.update.specs.Design.{designAt}
+use Rattle.step.specs.Design.{designAt}
 use Rattle.update.specs.Update.{Given, given, trial, reckoned}
 use Rattle.update.specs.Steps.{lowest, infinity, usual, orderly, more, off, Knows}
-use Rattle.update.proofs.Order.{positive-finite, lt-of-lt-of-le, lt-of-le-of-lt, finite-of-inverse, positive-of-tests}
+use Rattle.lanes.proofs.Order.{positive-finite, lt-of-lt-of-le, lt-of-le-of-lt, finite-of-inverse, positive-of-tests}
 use Rattle.update.proofs.Falls.{Orderly, below-settled, above-settled}
 
 infinity-is : infinity ≡ inf false

@@ -4,7 +4,7 @@ use mathlib.Core.Path.{_≡_}
 use mathlib.Core.Bool.{Bool, true, false, not, _&&_, _||_}
 use mathlib.Core.List.{List}
 use lib.Dec.{eqb}
-use lib.Ieee.{Float, binary64, add, sub, mul, lt, le, isNan, ofBits}
+use lib.Ieee.{Float, binary64, add, sub, mul, lt, le, isNan}
 use Rattle.lists.specs.Lists.{choose, zero64}
 use Rattle.ieee.specs.Basic.{one64, absOf}
 use Rattle.oc.specs.declared.kept.Rule.{Rule}
@@ -14,11 +14,7 @@ use Rattle.oc.specs.Record.{two64}
 use Rattle.update.specs.declared.Updated.{Updated}
 use Rattle.update.specs.declared.Ending.{Ending}
 use Rattle.update.specs.declared.Ending.the-variants.{Met, Cramped, Spent}
-use Rattle.update.specs.Design.{mostOf, designAt, sameDesign}
-
--- 1e4
-abbrev pub tenThousand : Float
-tenThousand = ofBits binary64 0x40c3_8800_0000_0000
+use Rattle.step.specs.Design.{tenThousand, mostOf, designAt, sameDesign}
 
 -- what an update is given
 pub record Given : Type 0 where

@@ -1,12 +1,12 @@
 // One update of the design by the optimality criterion (`update` of oc.rs): each value moved toward where the work that it saves for the
 // volume that it costs is the same for all, by at most m, between X_MIN and 1 (1 where solid); that common rate found by halving.
-mod design;
+mod ahead;
 mod plain;
 mod quick;
 
 ghost use mathlib.Core.Path.{_≡_};
 ghost use lib.ListN.{length};
-ghost use Rattle.update.specs.Design.{gainsOf};
+ghost use Rattle.step.specs.Design.{gainsOf};
 ghost use Rattle.update.specs.Update.{given, endingOf, Done};
 
 // The most times that one update reckons the volume it would keep.
@@ -87,8 +87,8 @@ pub fn update(
     requires { ⌜ (length (now dc) ≡ length (now x)) × (length (now dv) ≡ length (now x)) × (length (now passive) ≡ length (now x)) × (length (now design) ≡ length (now x)) × (length (now gain) ≡ length (now x)) × (length (now work) ≡ length (now x)) ⌝ }
     ensures { λ r. ⌜ Done (given (now (x .entry)) (gainsOf (now (dc .entry)) (now (dv .entry))) (now (dv .entry)) (now (passive .entry)) m target tolerance rule (now (starts .entry)) (now (near .entry)) (now (coef .entry)) (now (volumes .entry))) r (now (design .exit)) ⌝ }
 {
-    design::gains(dc, dv, gain);
-    let first = design::first_rate(design::most(&gain[..], passive));
+    step::gains(dc, dv, gain);
+    let first = step::first_rate(step::most(&gain[..], passive));
     let at = quick::quick(
         x,
         &gain[..],

@@ -40,8 +40,8 @@ fn raise(
     let mut passes = at.passes;
     while (kept > target) & (passes < PASSES) {
         let rate = 2.0 * high;
-        crate::design::design_at(x, gain, passive, m, rate, work);
-        if crate::design::same(&work[..], &design[..]) {
+        step::design_at(x, gain, passive, m, rate, work);
+        if step::same(&work[..], &design[..]) {
             return Rates {
                 low,
                 high,
@@ -49,7 +49,7 @@ fn raise(
                 passes,
             };
         }
-        crate::design::copy(&work[..], design);
+        step::copy(&work[..], design);
         kept = oc::kept::kept(
             rule,
             dv,
@@ -149,7 +149,7 @@ fn halve(
                 passes,
             };
         }
-        let same = crate::design::design_again(x, gain, passive, m, rate, design);
+        let same = step::design_again(x, gain, passive, m, rate, design);
         kept = kept_again(
             same,
             kept,
@@ -210,7 +210,7 @@ pub fn every(
     ensures { λ r. ⌜ standing r (now (design .exit)) ≡ updated (given (now (x .entry)) (now (gain .entry)) (now (dv .entry)) (now (passive .entry)) m target tolerance rule (now (starts .entry)) (now (near .entry)) (now (coef .entry)) (now (volumes .entry))) ⌝ }
 {
     let well = tested(rule, starts, near, coef, x.len());
-    crate::design::design_at(x, gain, passive, m, rate, design);
+    step::design_at(x, gain, passive, m, rate, design);
     let kept = oc::kept::kept(
         rule,
         dv,

@@ -8,7 +8,7 @@ ghost use lib.ListN.{length};
 ghost use lib.Ieee.{binary64, add, lt};
 ghost use Rattle.lists.specs.Lists.{zero64};
 ghost use Rattle.oc.specs.Record.{dot};
-ghost use Rattle.update.specs.Design.{designAt};
+ghost use Rattle.step.specs.Design.{designAt};
 ghost use Rattle.update.specs.Update.{given, whileTo, halves, halved, firstRate, updated};
 ghost use Rattle.update.specs.Steps.{usual as usualOf, orderly as orderlyOf, infinity, more as moreAt, off as offAt, standAt, standing, Knows};
 use crate::Known;
@@ -145,7 +145,7 @@ fn kept_at(
     let mut t = 0.0;
     let mut i = 0usize;
     while i < x.len() {
-        t = t + dv[i] * crate::design::next_value(passive[i], x[i], gain[i], m, rate);
+        t = t + dv[i] * step::next_value(passive[i], x[i], gain[i], m, rate);
         i += 1usize;
     }
     solid + t
@@ -328,7 +328,7 @@ fn straight(
             sure,
             first,
         );
-        crate::design::design_at(x, gain, passive, m, t.rate, design);
+        step::design_at(x, gain, passive, m, t.rate, design);
         let kept = solid + oc::record::dot(dv, &design[..]);
         return Rates {
             low: t.low,
@@ -380,11 +380,22 @@ pub fn quick(
             design,
             work,
         ),
-        Rule::Sharpened(_) => Rates {
-            low: 0.0,
-            high: 0.0,
-            kept: 0.0,
-            passes: 0usize,
-        },
+        Rule::Sharpened(beta) => crate::ahead::sharpened(
+            x,
+            gain,
+            dv,
+            passive,
+            m,
+            target,
+            tolerance,
+            beta,
+            starts,
+            near,
+            coef,
+            volumes,
+            first,
+            design,
+            work,
+        ),
     }
 }

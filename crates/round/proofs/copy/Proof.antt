@@ -8,7 +8,7 @@ use lib.Ieee.{nan}
 use Rattle.lists.specs.Lists.{overwrite}
 use Rattle.lists.proofs.Laws.{overwrite-none}
 use Rattle.oc.proofs.Filled.{stored, filled}
-use Rattle.update.proofs.Copied.{tabulate-getD}
+use Rattle.step.proofs.Copied.{tabulate-getD}
 use Rattle.round.proofs.copy.Statement.{statement}
 use Rattle.round.proofs.copy.Tie as tie
 

@@ -1,12 +1,12 @@
 -- `update::update` meets its contract by those of its two ways (`proofs/Stages.antt`). Assumes nothing.
-use mathlib.Core.Path.{_≡_, refl, sym, ap, _∙_}
+use mathlib.Core.Path.{refl, ap, _∙_}
 use mathlib.Core.List.{List}
-use lib.ListN.{length}
 use lib.Ieee.{Float, lt, binary64, mul}
 use denote.Ref.{now}
 use Rattle.lists.specs.Lists.{choose, zero64}
 use Rattle.ieee.specs.Basic.{one64}
-use Rattle.update.specs.Update.{tenThousand, Given, given, firstRate}
+use Rattle.step.specs.Design.{tenThousand}
+use Rattle.update.specs.Update.{Given, given, firstRate}
 use Rattle.update.proofs.Stages.{done, gain-is}
 use borrow.Author.Needs.{needs}
 use Rattle.update.proofs.update.Statement.{statement}

@@ -1,6 +1,5 @@
 -- `update::plain::every` meets its contract by those of its stages (`proofs/Stages.antt`). Assumes nothing.
-use mathlib.Core.Path.{_≡_, refl, sym, ap, _∙_}
-use lib.ListN.{length}
+use mathlib.Core.Path.{sym, _∙_}
 use lib.Dec.{lit≤}
 use denote.Ref.{now}
 use Rattle.update.specs.Update.{given, trial, reckoned}

@@ -1,13 +1,11 @@
 -- `update::plain::raise` meets its contract. The invariant: the definition goes on from where the loop stands as it would from the start. Assumes nothing.
-use mathlib.Core.Path.{_≡_, refl, sym, ap, _∙_}
+use mathlib.Core.Path.{_≡_, refl, sym, _∙_}
 use mathlib.Core.List.{List}
-use mathlib.Core.Bool.{Bool}
 use Prim.Native.Nat.{ℕ, _-_, _≤_}
 use native.Mathlib.Omega.{arith}
 use lib.ListN.{length}
 use lib.Ieee.{Float, lt}
 use denote.Ref.{now}
-use Rattle.oc.specs.declared.kept.Rule.{Rule}
 use Rattle.update.specs.Update.{Given, Stand, given, trial, reckoned, raises, raised, whileTo}
 use Rattle.update.proofs.Loops.{wf-at, pass-left, raise-more, raise-same, raise-over}
 use Rattle.update.proofs.plain.raise.Statement.{statement}

@@ -1,8 +1,7 @@
 -- `update::quick::judge` meets its contract: by what is known of the rate, or by the volume that it keeps. Assumes nothing.
 use lib.Ieee.{binary64, sub}
 use Rattle.ieee.specs.Basic.{absOf}
-use mathlib.Core.Path.{_≡_, sym, ap, _∙_}
-use mathlib.Core.Bool.{_&&_}
+use mathlib.Core.Path.{sym, ap, _∙_}
 use lib.Ieee.{Float, lt, le}
 use Rattle.lists.specs.Lists.{zero64}
 use Rattle.lists.proofs.Laws.{both}

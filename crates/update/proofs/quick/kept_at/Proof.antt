@@ -1,14 +1,14 @@
 -- `update::quick::kept_at` meets its contract: what is added up is the sum of the places passed. Assumes nothing.
 use borrow.Author.Needs.{needs}
-use mathlib.Core.Path.{_≡_, refl, sym, ap, _∙_}
+use mathlib.Core.Path.{_≡_, sym, ap, _∙_}
 use mathlib.Core.Bool.{false}
 use Prim.Native.Nat.{_-_, _≤_}
 use native.Mathlib.Nat.{le-antisymm}
 use lib.ListN.{length, getD}
-use lib.Ieee.{Float, nan, binary64, add, mul}
+use lib.Ieee.{nan, binary64, add, mul}
 use Rattle.lists.specs.Lists.{sumTo}
 use Rattle.lists.proofs.Laws.{sumTo-none, sumTo-more}
-use Rattle.update.specs.Design.{nextOf}
+use Rattle.step.specs.Design.{nextOf}
 use Rattle.update.proofs.Reckoned.{dot-is}
 use Rattle.update.proofs.quick.kept_at.Statement.{statement}
 use Rattle.update.proofs.quick.kept_at.Tie as tie

@@ -2,7 +2,7 @@
 use lib.Ieee.{binary64, fits}
 use Rattle.ieee.proofs.Basic.{holds}
 use denote.Ref.{now}
-use mathlib.Core.Path.{_≡_, refl, sym, ap, _∙_}
+use mathlib.Core.Path.{refl, sym, _∙_}
 use Rattle.update.proofs.Settled.{known-is, nothing-known}
 use borrow.Author.Needs.{needs}
 use Rattle.update.proofs.quick.known.Statement.{statement}

@@ -1,7 +1,7 @@
 -- `update::quick::orderly` meets its contract: whether any place passed is unusual. Assumes nothing.
 use borrow.Author.Needs.{needs}
-use mathlib.Core.Path.{_≡_, sym, ap, _∙_}
-use mathlib.Core.Bool.{Bool, not, _&&_, _||_}
+use mathlib.Core.Path.{_≡_, sym}
+use mathlib.Core.Bool.{not}
 use Prim.Native.Nat.{_-_, _≤_}
 use native.Mathlib.Nat.{le-antisymm}
 use lib.ListN.{length, getD}

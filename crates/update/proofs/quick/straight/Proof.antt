@@ -1,6 +1,5 @@
 -- `update::quick::straight` meets its contract: the guess serves where what is known of it settles the first rate. Assumes nothing.
-use mathlib.Core.Path.{_≡_, sym, ap, _∙_}
-use mathlib.Core.Bool.{_&&_}
+use mathlib.Core.Path.{ap}
 use mathlib.Core.List.{[]}
 use native.Mathlib.Omega.{arith}
 use lib.Ieee.{binary64, add, lt, le}

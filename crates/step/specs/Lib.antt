@@ -1,0 +1,2 @@
+-- `Design` has the design at a rate.
+pub mod Design
