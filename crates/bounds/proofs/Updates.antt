@@ -17,7 +17,7 @@ use Rattle.ieee.specs.Sqrt.{sqrtOf}
 use Rattle.ieee.proofs.Order.{le-number, le-transitive}
 use Rattle.ieee.proofs.Bounds.{max-either, min-either, max-left, max-right, min-left, min-right, raised-lowered}
 use Rattle.oc.specs.Start.{xMin}
-use Rattle.update.specs.Design.{grown, limited, nextOf, designAt}
+use Rattle.step.specs.Design.{grown, limited, nextOf, designAt}
 use Rattle.update.specs.Update.{Given, Stand, trial, first, raises, raised, halves, halved, whileTo, raisedAll, updated}
 use Rattle.update.proofs.Order.{Finite, number-left, positive-finite}
 use Rattle.update.proofs.Bounds.{Move}

@@ -18,7 +18,7 @@ use Rattle.oc.specs.Seen as Seen
 use Rattle.oc.specs.Slopes as Slopes
 use Rattle.oc.specs.Record as Record
 use Rattle.oc.specs.Kept as Kept
-use Rattle.update.specs.Design as Design
+use Rattle.step.specs.Design as Design
 use Rattle.update.specs.Update as Update
 use Rattle.plain.specs.Lent as Lent
 use Rattle.plain.specs.Formulas as Formulas

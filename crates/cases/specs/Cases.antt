@@ -14,7 +14,7 @@ use Rattle.geom.specs.declared.Mirror.{Mirror}
 use Rattle.faces.specs.Triangle.{dist2ToTriangle}
 use Rattle.topo.specs.Levels.{levelOf}
 use Rattle.oc.specs.Project.{half, stages, projected}
-use Rattle.update.specs.Design.{gainOf, nextOf}
+use Rattle.step.specs.Design.{gainOf, nextOf}
 use Rattle.off_centre.specs.OffCentre.{offCentreOf}
 use Rattle.off_centre.specs.declared.Balance.the-variants.{Even, Reaches}
 use Rattle.plain.specs.declared.Entry.the-variants.{Kept}
