@@ -17,7 +17,7 @@ use lib.Ieee.Positive.{positive, positive-of-value, between}
 use Rattle.ieee.proofs.Order.{le-transitive, le-parts, parts-le}
 use Rattle.ieee.proofs.Sign.{round-neg}
 use Rattle.ieee.proofs.Sqrt.Value.{grid}
-use Rattle.update.proofs.Order.{Plus, Finite, round-plus}
+use Rattle.lanes.proofs.Order.{Plus, Finite, round-plus}
 
 -- ---- a value that a format holds is rounded to itself
 module _ (f : Format) where

@@ -2,7 +2,7 @@
 use lib.Dec.{T}
 use lib.Ieee.{Float, binary64, fits, le}
 use Rattle.ieee.specs.Basic.{one64}
-use Rattle.update.proofs.Order.{Finite}
+use Rattle.lanes.proofs.Order.{Finite}
 
 -- finite, with no minus, at most 1
 pub record Range (x : Float) : Type 0 where

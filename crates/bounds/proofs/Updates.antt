@@ -19,7 +19,7 @@ use Rattle.ieee.proofs.Bounds.{max-either, min-either, max-left, max-right, min
 use Rattle.oc.specs.Start.{xMin}
 use Rattle.step.specs.Design.{grown, limited, nextOf, designAt}
 use Rattle.update.specs.Update.{Given, Stand, trial, first, raises, raised, halves, halved, whileTo, raisedAll, updated}
-use Rattle.update.proofs.Order.{Finite, number-left, positive-finite}
+use Rattle.lanes.proofs.Order.{Finite, number-left, positive-finite}
 use Rattle.update.proofs.Bounds.{Move}
 use Rattle.plain.proofs.Update.{length-updated}
 use Rattle.bounds.specs.Bounds.{Bounded, UpdatedBy}
