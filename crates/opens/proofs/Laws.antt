@@ -6,22 +6,22 @@ use Prim.Native.Nat.{ℕ, zero, suc, _+_, _<_, _≤_}
 use native.Mathlib.Numerals.{add-one}
 use native.Mathlib.Omega.{arith}
 use lib.ListN.{length, drop, getD, replicate, List·getD-append}
-use lib.Dec.{ltb, eqb}
+use lib.Dec.{eqb}
 use lib.Ieee.{Float}
-use borrow.Author.Tests.{ltb-true, ltb-false, eqb-true, ne-eqb, not-false}
-use Rattle.lists.specs.Lists.{tabulate, overwrite, choose, zero64}
+use borrow.Author.Tests.{ltb-false, eqb-true, ne-eqb, not-false}
+use Rattle.lists.specs.Lists.{tabulate, choose, zero64}
 use Rattle.lists.proofs.Laws.{neither, choose-false, length-tabulate, getD-tabulate, overwrite-is}
 use Rattle.ieee.specs.Basic.{one64}
 use Rattle.filter.specs.Filter.{start}
 use Rattle.filter.specs.Build.{Lent, Outcome, zeroed, built, numberOf, laid, left, Worked, outcome, Built}
 use Rattle.plain.specs.declared.Phase.the-variants.{Solid as SolidPhase}
 use Rattle.plain.specs.declared.State.{State}
-use Rattle.plain.specs.declared.Reply.the-variants.{Refused, Solid}
-use Rattle.plain.specs.declared.Entry.the-variants.{Kept, Zeroed, Shut, Opens}
-use Rattle.plain.specs.Lent.{overlay, short, openWork, openShort, runShort}
+use Rattle.plain.specs.declared.Reply.the-variants.{Refused}
+use Rattle.plain.specs.declared.Entry.the-variants.{Zeroed, Shut, Opens}
+use Rattle.plain.specs.Lent.{overlay, short, openShort, runShort}
 use Rattle.plain.specs.Formulas.{ones}
 use Rattle.plain.specs.Opening.{Opening, elements, startsOf, nearOf, coefOf, startOf, tableRefusal, firstRefusal, lastly, entryOf}
-use Rattle.plain.specs.Calls.{Asked, endedOf, inTurn, openedState}
+use Rattle.plain.specs.Calls.{Asked, endedOf, inTurn}
 use Rattle.plain.proofs.Formulas.{length-start}
 use Rattle.answering.specs.declared.Told.{Told}
 use Rattle.answering.specs.Answers.{Core}
@@ -83,16 +83,16 @@ module _ (s : State) (g : Asked) (room : ℕ) (l : Core) (w : Work) where
         let c = zeroes n e in
         let f = entry-zeroed o n none (sym b-is ∙ e) in
         let h : Left (length (l .volumes)) w w₁ (Zeroed b) =
-            record {
-              cell = subst (λ (v : Outcome). Worked v (length (g .centroids)) (0 ∷ 0 ∷ 0 ∷ []) (w .cell) (w₁ .cell)) c (made .cell);
-              order = subst (λ (v : Outcome). Worked v (length (g .centroids)) 0 (w .order) (w₁ .order)) c (made .order);
-              first = subst (λ (v : Outcome). Worked v (length (g .centroids) + 1) 0 (w .first) (w₁ .first)) c (made .first);
-              sorted = subst (λ (v : Outcome). Worked v (length (g .centroids)) (zero64 ∷ zero64 ∷ zero64 ∷ []) (w .sorted) (w₁ .sorted)) c (made .sorted);
-              stamp = subst (λ (v : Outcome). Worked v (length (g .centroids)) 0 (w .stamp) (w₁ .stamp)) c (made .stamp);
-              weight = subst (λ (v : Outcome). Worked v (length (g .centroids)) zero64 (w .weight) (w₁ .weight)) c (made .weight);
-              found = subst (λ (v : Outcome). Worked v (length (g .centroids)) 0 (w .found) (w₁ .found)) c (made .found);
-              bits = subst (λ (v : Outcome). Worked v 1040 0 (w .bits) (w₁ .bits)) c (made .bits);
-            } in
+        record {
+          cell = subst (λ (v : Outcome). Worked v (length (g .centroids)) (0 ∷ 0 ∷ 0 ∷ []) (w .cell) (w₁ .cell)) c (made .cell);
+          order = subst (λ (v : Outcome). Worked v (length (g .centroids)) 0 (w .order) (w₁ .order)) c (made .order);
+          first = subst (λ (v : Outcome). Worked v (length (g .centroids) + 1) 0 (w .first) (w₁ .first)) c (made .first);
+          sorted = subst (λ (v : Outcome). Worked v (length (g .centroids)) (zero64 ∷ zero64 ∷ zero64 ∷ []) (w .sorted) (w₁ .sorted)) c (made .sorted);
+          stamp = subst (λ (v : Outcome). Worked v (length (g .centroids)) 0 (w .stamp) (w₁ .stamp)) c (made .stamp);
+          weight = subst (λ (v : Outcome). Worked v (length (g .centroids)) zero64 (w .weight) (w₁ .weight)) c (made .weight);
+          found = subst (λ (v : Outcome). Worked v (length (g .centroids)) 0 (w .found) (w₁ .found)) c (made .found);
+          bits = subst (λ (v : Outcome). Worked v 1040 0 (w .bits) (w₁ .bits)) c (made .bits);
+        } in
         zeroed-law s g room l w b st ne co w₁ turn (f ∙ ap Zeroed (sym e))
         (made .starts ∙ ap (λ (v : Outcome). left v (tabulate (start (g .centroids) (g .goal .radius) (g .mirrors)) (length (g .centroids) + 1)) 0 (l .starts)) c)
         (made .near ∙ ap (λ (v : Outcome). left v (nearOf o) 0 (l .near)) c)
@@ -173,16 +173,16 @@ module _ (s : State) (g : Asked) (room : ℕ) (l : Core) (w : Work) where
       shut r x q w₂ t h =
           let k = worked in
           let f : Left (length (l .volumes)) w w₂ Shut =
-              record {
-                cell = h .work .cells ∙ ap (λ (n : ℕ). replicate n (0 ∷ 0 ∷ 0 ∷ [])) (k .cell .0);
-                order = h .work .orders ∙ ap (λ (n : ℕ). replicate n 0) (k .order .0);
-                first = h .work .firsts ∙ ap (λ (n : ℕ). replicate n 0) (k .first .0);
-                sorted = h .work .sorteds ∙ ap (λ (n : ℕ). replicate n (zero64 ∷ zero64 ∷ zero64 ∷ [])) (k .sorted .0);
-                stamp = h .work .stamps ∙ ap (λ (n : ℕ). replicate n 0) (k .stamp .0);
-                weight = h .work .weights ∙ ap (λ (n : ℕ). replicate n zero64) (k .weight .0);
-                found = h .work .founds ∙ ap (λ (n : ℕ). replicate n 0) (k .found .0);
-                bits = h .work .maps ∙ ap (λ (n : ℕ). replicate n 0) (k .bits .0);
-              } in
+          record {
+            cell = h .work .cells ∙ ap (λ (n : ℕ). replicate n (0 ∷ 0 ∷ 0 ∷ [])) (k .cell .0);
+            order = h .work .orders ∙ ap (λ (n : ℕ). replicate n 0) (k .order .0);
+            first = h .work .firsts ∙ ap (λ (n : ℕ). replicate n 0) (k .first .0);
+            sorted = h .work .sorteds ∙ ap (λ (n : ℕ). replicate n (zero64 ∷ zero64 ∷ zero64 ∷ [])) (k .sorted .0);
+            stamp = h .work .stamps ∙ ap (λ (n : ℕ). replicate n 0) (k .stamp .0);
+            weight = h .work .weights ∙ ap (λ (n : ℕ). replicate n zero64) (k .weight .0);
+            found = h .work .founds ∙ ap (λ (n : ℕ). replicate n 0) (k .found .0);
+            bits = h .work .maps ∙ ap (λ (n : ℕ). replicate n 0) (k .bits .0);
+          } in
           let e : entryOf o ≡ Shut = entry-last o none (sym b-is ∙ zero-b) ∙ ap (lastly o) t in
           let m = shut-law s g room l w (endedOf s) st ne co w₂ turn e refl starts-is near-is coef-is f in
           subst (λ (z : List Float). Opened s g room l w r (record { volumes = l .volumes; passive = l .passive; starts = st; near = ne; coef = co; design = z; density = q; last = l .last }) w₂) (sym (h .design))
@@ -199,7 +199,7 @@ module _ (s : State) (g : Asked) (room : ℕ) (l : Core) (w : Work) where
           let d : x ≡ overlay (startOf o) (l .design) = h .design ∙ ap (λ (k : ℕ). startOf o ++ drop k (l .design)) (sym (length-start o)) in
           let p : q ≡ overlay (ones (length (l .volumes))) (l .density) = h .density ∙ overwrite-is (λ _. one64) (length (l .volumes)) (l .density) density-fits ∙ ap (λ (k : ℕ). ones (length (l .volumes)) ++ drop k (l .density)) (sym (length-tabulate (λ _. one64) (length (l .volumes)))) in
           let m = opens-law s g room l w (record { phase = SolidPhase; elements = length (l .volumes); entries = n; fraction = g .goal .fraction; sharpen = g .goal .sharpen; «max_iterations» = g .goal .«max_iterations»; rounds = 0; stage = 0; «at_stage» = 0; steady = 0; «solid_compliance» = zero64; compliance = zero64 }) st ne co x q w₂ turn e
-              (ap (λ (k : ℕ). record { phase = SolidPhase; elements = length (l .volumes); entries = k; fraction = g .goal .fraction; sharpen = g .goal .sharpen; «max_iterations» = g .goal .«max_iterations»; rounds = 0; stage = 0; «at_stage» = 0; steady = 0; «solid_compliance» = zero64; compliance = zero64 }) c) starts-is near-is coef-is d p f in
+          (ap (λ (k : ℕ). record { phase = SolidPhase; elements = length (l .volumes); entries = k; fraction = g .goal .fraction; sharpen = g .goal .sharpen; «max_iterations» = g .goal .«max_iterations»; rounds = 0; stage = 0; «at_stage» = 0; steady = 0; «solid_compliance» = zero64; compliance = zero64 }) c) starts-is near-is coef-is d p f in
           subst (λ (z : Told). Opened s g room l w z (record { volumes = l .volumes; passive = l .passive; starts = st; near = ne; coef = co; design = x; density = q; last = l .last }) w₂) (sym (h .told)) m
 
       pub last-law : (r : Told) (e : ℕ) (x q : List Float) (w₂ : Work) → e ≡ getD st (length (l .volumes)) 0

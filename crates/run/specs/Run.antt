@@ -4,9 +4,15 @@ use mathlib.Core.List.{List}
 use lib.ListN.{length}
 use Rattle.topo.specs.declared.Iteration.{Iteration}
 use Rattle.plain.specs.declared.State.{State}
-use Rattle.plain.specs.Calls.{Told, Result, answerOf}
+use Rattle.plain.specs.Calls.{Asked, Told, Result, openOf, answerOf}
 use Rattle.answering.specs.declared.Told.{Told as Gives}
 use Rattle.answering.specs.Answers.{Core, Work, listsOf, lengthsOf, verdictIn, worked}
+use Rattle.opening.specs.Opens.{Work as OpenWork, lengthsOf as openLengths, entryIn, Left}
+
+-- an opening: the result and every list are those of `openOf`; `work` says what is left in the working lists
+pub record Opened (s : State) (g : Asked) (l : Core) (w : OpenWork) (h : List Iteration) (r : Gives) (o : Core) (w′ : OpenWork) (h′ : List Iteration) : Type 0 where
+  pub same : _≡_ {A = Result} (record { state = r .state; reply = r .reply; lists = listsOf o h′ }) (openOf s g (openLengths w) (listsOf l h))
+  pub work : Left (length (l .volumes)) w w′ (entryIn s g (length h) l w)
 
 -- an answer: the result and every list are those of `answerOf`; `work` says what is free in the working lists
 pub record Answered (s : State) (a : Told) (l : Core) (w : Work) (h : List Iteration) (r : Gives) (o : Core) (w′ : Work) (h′ : List Iteration) : Type 0 where

@@ -1,10 +1,73 @@
 // The loop of `optimize` as questions and answers: a run is opened, and then answered question by question. Each call states its outcome for
 // every input.
-ghost use Rattle.run.specs.Run.{Answered};
+ghost use Rattle.run.specs.Run.{Opened, Answered};
 use answering::Told;
 use plain::Said;
 use plain::State;
+use topo::Goal;
 use topo::Iteration;
+
+// A run is opened on a job: the elements' volumes, middles and held marks, the goal, the planes of symmetry, and whether the run is to stop. The
+// filter is built into its three lists, the design is the start's, and the densities are the solid part's. `last` and the history are only measured.
+// The last eight lists are for the call's own use.
+pub fn open(
+    state: State,
+    goal: Goal,
+    flag: bool,
+    volumes: &[f64],
+    centroids: &[[f64; 3]],
+    passive: &[bool],
+    mirrors: &[[f64; 6]],
+    starts: &mut [u32],
+    near: &mut [u32],
+    coef: &mut [f64],
+    design: &mut [f64],
+    density: &mut [f64],
+    last: &[f64],
+    history: &mut [Iteration],
+    cell: &mut [[u64; 3]],
+    order: &mut [u32],
+    first: &mut [u32],
+    sorted: &mut [[f64; 3]],
+    stamp: &mut [u32],
+    weight: &mut [f64],
+    found: &mut [u32],
+    bits: &mut [u64],
+) -> Told
+    ensures { λ r. ⌜ Opened state (record { centroids = now (centroids .entry); mirrors = now (mirrors .entry); goal = goal; flag = flag })
+        (record { volumes = now (volumes .entry); passive = now (passive .entry); starts = now (starts .entry); near = now (near .entry); coef = now (coef .entry); design = now (design .entry); density = now (density .entry); last = now (last .entry) })
+        (record { cell = now (cell .entry); order = now (order .entry); first = now (first .entry); sorted = now (sorted .entry); stamp = now (stamp .entry); weight = now (weight .entry); found = now (found .entry); bits = now (bits .entry) })
+        (now (history .entry))
+        r
+        (record { volumes = now (volumes .entry); passive = now (passive .entry); starts = now (starts .exit); near = now (near .exit); coef = now (coef .exit); design = now (design .exit); density = now (density .exit); last = now (last .entry) })
+        (record { cell = now (cell .exit); order = now (order .exit); first = now (first .exit); sorted = now (sorted .exit); stamp = now (stamp .exit); weight = now (weight .exit); found = now (found .exit); bits = now (bits .exit) })
+        (now (history .exit)) ⌝ }
+{
+    opens::take(
+        history.len(),
+        state,
+        goal,
+        flag,
+        volumes,
+        centroids,
+        passive,
+        mirrors,
+        starts,
+        near,
+        coef,
+        design,
+        density,
+        last,
+        cell,
+        order,
+        first,
+        sorted,
+        stamp,
+        weight,
+        found,
+        bits,
+    )
+}
 
 // The solver's answer to the last question: energies, one an element, or that it failed or stopped; whether the run is to stop; the milliseconds
 // elapsed and allowed. The filter's lists, the design and both densities are those that the last call left. The last five lists are for the call's

@@ -151,7 +151,7 @@ module _ (centroids : List (List Float)) (volumes : List Float) (radius : Float)
       let m = start-more centroids radius planes e in
       let top = start-mono centroids radius planes e n h in
       let at : (i : ℕ) → begins e ≤ i → i < begins (e + 1) → getD (l' .near) i 0 ≡ getD (columns centroids radius planes e) (i - begins e) 0 =
-          λ i low high. near-at i (omega arith) ∙ ap (λ (x : ℕ). getD (neighbours centroids radius planes n) x 0) (omega arith) ∙ neighbour-at centroids radius planes n e (i - begins e) h (omega arith) in
+      λ i low high. near-at i (omega arith) ∙ ap (λ (x : ℕ). getD (neighbours centroids radius planes n) x 0) (omega arith) ∙ neighbour-at centroids radius planes n e (i - begins e) h (omega arith) in
       let a = at j (omega arith) (omega arith) in
       let b = at k (omega arith) (omega arith) in
       let c = columns-rise centroids radius planes e (j - begins e) (k - begins e) (omega arith) (omega arith) in
