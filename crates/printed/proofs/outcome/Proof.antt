@@ -1,79 +1,74 @@
+-- `outcome` meets its contract. Assumes nothing.
+use mathlib.Core.Path.{sym, ap, _∙_}
+use mathlib.Core.List.{List}
+use lib.ListN.{take}
+use lib.Ieee.{Float}
+use Rattle.plain.specs.declared.Reply.{Reply}
+use Rattle.report.specs.Report.{textOf, ran}
+use Rattle.report.proofs.Laws.{retext}
+use Rattle.printed.specs.Printed.{outcomeBy}
 use borrow.Author.Needs.{needs}
 use Rattle.printed.proofs.outcome.Statement.{statement}
 use Rattle.printed.proofs.outcome.Tie as tie
-use Rattle.printed.proofs.outcome.Reads as reads
-use Rattle.printed.proofs.outcome.Lts as lts
-use Rattle.printed.proofs.front.Reads as front-reads
-use Rattle.report.proofs.ran.Reads as ran-reads
-use Rattle.report.proofs.refused.Reads as refused-reads
 
--- src/lib.rt:34:24
 enum-known-reply : tie.Need-enum-known-reply
 enum-known-reply c = search needs
 
--- src/lib.rt:34:30
 refused-requires : tie.Need-refused-requires
 refused-requires c κs = search needs
 
--- src/lib.rt:35:41
 enum-told : tie.Need-enum-told
 enum-told c = search needs
 
--- src/lib.rt:35:25
 refused-requires-2 : tie.Need-refused-requires-2
 refused-requires-2 c κs = search needs
 
--- src/lib.rt:36:44
 enum-told-2 : tie.Need-enum-told-2
 enum-told-2 c = search needs
 
--- src/lib.rt:36:28
 refused-requires-3 : tie.Need-refused-requires-3
 refused-requires-3 c κs = search needs
 
--- src/lib.rt:37:21
 enum-known-reply-2 : tie.Need-enum-known-reply-2
 enum-known-reply-2 c = search needs
 
--- src/lib.rt:43:13
 front-requires : tie.Need-front-requires
 front-requires c κs = search needs
 
--- src/lib.rt:37:29
 ran-requires : tie.Need-ran-requires
 ran-requires c κs = search needs
 
--- src/lib.rt:26:1
 same-length : tie.Need-same-length
 same-length c = search needs
 
--- src/lib.rt:26:1
 returns : tie.Need-returns
-returns c = ?
+returns c =
+    let a = c .before .before .before .before .before .before .before .before .before .before .before .before .args in
+    retext (ap (λ (q : Reply). textOf (outcomeBy q (a .t .told .state) (a .t .history) (a .last .now))) (sym (c .before .before .before .before .before .reply .given .1))) (c .before .before .refused .ensures)
 
--- src/lib.rt:26:1
 same-length-2 : tie.Need-same-length-2
 same-length-2 c = search needs
 
--- src/lib.rt:26:1
 returns-2 : tie.Need-returns-2
-returns-2 c = ?
+returns-2 c =
+    let a = c .before .before .before .before .before .before .before .before .before .before .before .args in
+    retext (ap (λ (q : Reply). textOf (outcomeBy q (a .t .told .state) (a .t .history) (a .last .now))) (sym (c .before .before .before .before .enum-told .given .1))) (c .before .before .refused2 .ensures)
 
--- src/lib.rt:26:1
 same-length-3 : tie.Need-same-length-3
 same-length-3 c = search needs
 
--- src/lib.rt:26:1
 returns-3 : tie.Need-returns-3
-returns-3 c = ?
+returns-3 c =
+    let a = c .before .before .before .before .before .before .before .before .before .before .before .args in
+    retext (ap (λ (q : Reply). textOf (outcomeBy q (a .t .told .state) (a .t .history) (a .last .now))) (sym (c .before .before .before .before .enum-told2 .given .1))) (c .before .before .refused3 .ensures)
 
--- src/lib.rt:26:1
 same-length-4 : tie.Need-same-length-4
 same-length-4 c = search needs
 
--- src/lib.rt:26:1
 returns-4 : tie.Need-returns-4
-returns-4 c = ?
+returns-4 c =
+    let a = c .before .before .before .before .before .before .before .before .before .before .before .before .before .args in
+    retext (ap (λ (l : List Float). textOf (ran (a .t .told .state .«solid_compliance») (take (a .t .told .state .rounds) (a .t .history)) (c .before .before .before .before .before .before .reply2 .given .0 .0) l)) (c .before .before .before .front .ensures) ∙ ap (λ (q : Reply). textOf (outcomeBy q (a .t .told .state) (a .t .history) (a .last .now))) (sym (c .before .before .before .before .before .before .reply2 .given .1))) (c .before .before .ran .ensures)
 
 pub outcome-spec : {M : Type 1} → statement M
 outcome-spec =
