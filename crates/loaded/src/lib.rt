@@ -16,7 +16,7 @@ pub fn load(
     passive: &mut [bool],
     mirrors: &mut [[f64; 6]],
 ) -> bool
-    ensures { λ r. ⌜ Loaded (now (bytes .entry)) (lent (now (volume_bits .entry)) (now (centroid_bits .entry)) (now (weight_bits .entry)) (now (passive .entry)) (now (mirror_bits .entry)))
+    ensures { λ r. ⌜ Loaded (now (bytes .entry)) (lent (now («volume_bits» .entry)) (now («centroid_bits» .entry)) (now («weight_bits» .entry)) (now (passive .entry)) (now («mirror_bits» .entry)))
         (record { volumes = now (volumes .entry); centroids = now (centroids .entry); weights = now (weights .entry); passive = now (passive .entry); mirrors = now (mirrors .entry) })
         r
         (record { volumes = now (volumes .exit); centroids = now (centroids .exit); weights = now (weights .exit); passive = now (passive .exit); mirrors = now (mirrors .exit) }) ⌝ }
