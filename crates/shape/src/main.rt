@@ -14,38 +14,48 @@ struct Input {
     at: usize,
 }
 
+fn least(a: usize, b: usize) -> usize
+    ensures { λ r. ⌜ (r ≤ a) × (r ≤ b) ⌝ }
+{
+    if a < b {
+        return a;
+    }
+    b
+}
+
 // Keeps a part of a strip from place `at` on, as far as there is room. Tells the next place.
 fn keep(kept: &mut [u8], at: usize, part: &[u8]) -> usize
     requires { ⌜ at ≤ length (now kept) ⌝ }
     ensures { λ r. ⌜ r ≤ length (now (kept .entry)) ⌝ }
 {
-    let mut next = at;
+    let n = least(kept.len() - at, part.len());
     let mut i = 0usize;
-    while i < part.len() {
-        if next < kept.len() {
-            kept[next] = part[i];
-            next += 1usize;
-        }
+    while i < n {
+        kept[at + i] = part[i];
         i += 1usize;
     }
-    next
+    at + n
 }
 
-// Reads all of standard input in parts: each is fed to the reader, and the first bytes are kept.
+// Reads all of standard input in parts: each is fed to the reader, and the first bytes are kept. A strip has less than 2^35 bytes, so one that 2^32
+// parts do not end is malformed by then.
 fn read_all(kept: &mut [u8]) -> Input
     ensures { λ r. ⌜ r .at ≤ length (now (kept .entry)) ⌝ }
 {
     let mut reader = strip::begin();
     let mut at = 0usize;
     let mut part = io::large_buffer();
-    loop {
+    let mut left = 0x1_0000_0000u64;
+    while left > 0 {
         let got = io::read_full(STDIN_FILENO, &mut part);
-        if got == 0 {
-            return Input { reader, at };
-        }
         reader = strip::feed(reader, &part[..got]);
         at = keep(kept, at, &part[..got]);
+        left -= 1;
+        if got == 0 {
+            left = 0;
+        }
     }
+    Input { reader, at }
 }
 
 // Loads the job of a strip that is whole and not malformed.
@@ -86,6 +96,7 @@ fn run(
     out: &mut [u8],
 ) -> usize
     requires { ⌜ length (now volumes) ≤ 256 ⌝ }
+    ensures { λ r. ⌜ r ≤ length (now (out .entry)) ⌝ }
 {
     let none = Iteration {
         number: 0,
@@ -173,8 +184,9 @@ fn main() {
         mirrors: 0,
     };
     let job = strips::job(answer, none);
-    let n = job.elements;
-    let k = job.mirrors;
+    // a job that is not refused has no more than these
+    let n = least(job.elements, 256);
+    let k = least(job.mirrors, 3);
     let mut volumes = [0.0; 256];
     let mut centroids = [[0.0; 3]; 256];
     let mut weights = [0.0; 256];
