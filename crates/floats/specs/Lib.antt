@@ -1,0 +1,2 @@
+-- `Floats` has bit patterns as floats.
+pub mod Floats

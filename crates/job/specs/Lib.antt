@@ -1,0 +1,2 @@
+-- `Job` has a whole job: an opening, and the solver's answers until a run ends.
+pub mod Job

@@ -1,0 +1,2 @@
+-- `Loaded` has a strip's job in lists of floats.
+pub mod Loaded

@@ -1,0 +1,2 @@
+-- `Printed` has what program `shape` prints of a strip.
+pub mod Printed
