@@ -45,8 +45,12 @@ fn options() -> Option<(Run, Option<PathBuf>)> {
 }
 
 fn main() -> ExitCode {
+    if std::env::args().nth(1).as_deref() == Some("strips") {
+        print!("{}", strips::sample());
+        return ExitCode::SUCCESS;
+    }
     let Some((mut run, shape)) = options() else {
-        eprintln!("usage: differential [--cases N] [--long] [--seed S] [--only FUNCTION] [--shape FILE]");
+        eprintln!("usage: differential [--cases N] [--long] [--seed S] [--only FUNCTION] [--shape FILE]\n       differential strips");
         return ExitCode::from(2);
     };
     leaves::all(&mut run);

@@ -1,4 +1,5 @@
 //! Job strips through the program `shape`, beside document 01's rules for strips around the plain run.
+use std::collections::BTreeMap;
 use std::io::Write;
 use std::path::Path;
 use std::process::{Command, Stdio};
@@ -19,6 +20,36 @@ pub fn all(run: &mut Run, shape: &Path) {
     let ours = |s: Strip| Printed(output(shape, &s.0));
     let edges = every_word().into_iter().chain([huge(), Strip(Vec::new())]);
     run.jobs("shape", 200, edges, Strip::random, theirs, ours);
+}
+
+/// A sample for a gate without the Rust: a line for each strip, its bytes in hexadecimal and what the reference prints, with / for the end of a line. Of each way
+/// in which a job can end there are some, with sharpening and without, with planes and without.
+pub fn sample() -> String {
+    let mut g = Gen::of(1, "shape");
+    let mut seen: BTreeMap<(String, bool, usize), usize> = BTreeMap::new();
+    let mut text = String::new();
+    let mut put = |strip: &Strip| {
+        let hex: String = strip.0.iter().map(|b| format!("{b:02x}")).collect();
+        text += &format!("{hex} {}\n", printed(&strip.0).0.replace('\n', "/"));
+    };
+    put(&Strip::of(&worked()));
+    put(&Strip(Vec::new()));
+    for _ in 0..20_000 {
+        let strip = Strip::random(&mut g);
+        let job = read(&strip.0).unwrap_or_default();
+        let kind = (ending(&printed(&strip.0).0), job.sharpen, job.planes.len());
+        let count = seen.entry(kind).or_default();
+        if *count < 3 && strip.0.len() < 4000 {
+            *count += 1;
+            put(&strip);
+        }
+    }
+    text
+}
+
+/// The line that tells how a job ended.
+fn ending(text: &str) -> String {
+    text.lines().find(|l| l.starts_with("refused") || l.starts_with("stop")).unwrap_or("nothing").to_string()
 }
 
 /// The bytes of a strip.
@@ -238,7 +269,9 @@ impl Job {
             let weight = if g.below(8) == 0 { 0.0 } else { g.unit() * 10f64.powi(g.below(9) as i32 - 4) };
             ([volume, at[0], at[1], at[2], weight], g.below(8) < held)
         };
-        let planes = [[side / 2.0, 0.0, 0.0, 1.0, 0.0, 0.0], [0.0, 1.0, 0.0, 0.0, 3.0, 0.0], [0.0, 0.0, 0.5, 0.0, 0.0, -1.0]];
+        // One time in ten the second is not square to the first.
+        let slant = if g.below(10) == 0 { 1.0 } else { 0.0 };
+        let planes = [[side / 2.0, 0.0, 0.0, 1.0, 0.0, 0.0], [0.0, 1.0, 0.0, slant, 3.0, 0.0], [0.0, 0.0, 0.5, 0.0, 0.0, -1.0]];
         Job {
             fraction: 0.05 + 0.9 * g.unit(),
             radius: g.pick(&[0.001, 0.5, 1.0, 1.5, 2.0]),
@@ -344,7 +377,6 @@ fn huge() -> Strip {
 #[cfg(test)]
 mod tests {
     use super::*;
-    use std::collections::BTreeMap;
 
     #[test]
     fn the_worked_job() {
@@ -360,10 +392,9 @@ mod tests {
         let mut seen: BTreeMap<String, usize> = BTreeMap::new();
         for _ in 0..6000 {
             let Printed(text) = printed(&Strip::random(&mut g).0);
-            let line = text.lines().find(|l| l.starts_with("refused") || l.starts_with("stop")).unwrap_or("nothing").to_string();
-            *seen.entry(line).or_default() += 1;
+            *seen.entry(ending(&text)).or_default() += 1;
         }
-        let wanted = [2, 4, 5, 6, 7, 8, 9, 11, 14, 17, 19, 22].map(|k| format!("refused {k}"));
+        let wanted = [2, 4, 5, 6, 7, 8, 9, 11, 12, 14, 17, 19, 22].map(|k| format!("refused {k}"));
         for what in wanted.into_iter().chain(["stop Settled", "stop LevelledOff", "stop Limit"].map(String::from)) {
             assert!(seen.contains_key(&what), "{what}: {seen:?}");
         }
