@@ -14,6 +14,7 @@ mod lists;
 mod mesh;
 mod oc;
 mod plain;
+mod region;
 mod runs;
 #[cfg(test)]
 mod strips;
@@ -49,6 +50,7 @@ fn main() -> ExitCode {
     };
     leaves::all(&mut run);
     mesh::all(&mut run);
+    region::all(&mut run);
     filter::all(&mut run);
     oc::all(&mut run);
     runs::all(&mut run);
