@@ -32,6 +32,18 @@ typedef struct {
 
 typedef struct {
     uint32_t refused;
+    double distance;
+} SokdribAsymmetry;
+
+typedef struct {
+    uint32_t refused;
+    bool off;
+    double ahead;
+    double behind;
+} SokdribOffCentre;
+
+typedef struct {
+    uint32_t refused;
     double total;
     double solid;
     double target;
@@ -98,6 +110,8 @@ typedef struct {
 _Static_assert(sizeof(SokdribVec3) == 24, "SokdribVec3");
 _Static_assert(sizeof(SokdribMirror) == 48, "SokdribMirror");
 _Static_assert(sizeof(SokdribMade) == 16, "SokdribMade");
+_Static_assert(sizeof(SokdribAsymmetry) == 16, "SokdribAsymmetry");
+_Static_assert(sizeof(SokdribOffCentre) == 24, "SokdribOffCentre");
 _Static_assert(sizeof(SokdribStart) == 48, "SokdribStart");
 _Static_assert(sizeof(SokdribProjected) == 16, "SokdribProjected");
 _Static_assert(sizeof(SokdribKept) == 16, "SokdribKept");
@@ -312,6 +326,75 @@ SokdribMade sokdrib_block(
     uint32_t *edges,
     size_t edges_len
 );
+
+/* The elements that must stay solid, and 0 or the refusal: 3, 21, 9, 8 or 14, with all lists as before. A triangle has its three corners' numbers and
+ * then those of the middles of its sides, and its surface is in surfaces. held and loaded are numbers of nodes. Set s of kept surfaces is kept from
+ * starts[s] up to starts[s + 1]; its depth is none where it is not finite or not above 0. keep and the lists after it are for the call's own use: keep
+ * needs a place a node, first one more than an element, the others one an element. */
+uint32_t sokdrib_passive(
+    const double (*nodes)[3],
+    size_t nodes_len,
+    const uint32_t (*tets)[10],
+    size_t tets_len,
+    const uint32_t (*tris)[6],
+    size_t tris_len,
+    const uint32_t *surfaces,
+    size_t surfaces_len,
+    const uint32_t *held,
+    size_t held_len,
+    const uint32_t *loaded,
+    size_t loaded_len,
+    const uint32_t *starts,
+    size_t starts_len,
+    const uint32_t *kept,
+    size_t kept_len,
+    const double *depths,
+    size_t depths_len,
+    bool *marks,
+    size_t marks_len,
+    bool *keep,
+    size_t keep_len,
+    double (*middles)[3],
+    size_t middles_len,
+    uint64_t (*cells)[3],
+    size_t cells_len,
+    uint32_t *order,
+    size_t order_len,
+    uint32_t *place,
+    size_t place_len,
+    uint32_t *first,
+    size_t first_len
+);
+
+/* The farthest that any corner of a boundary triangle, seen in the plane, is from the boundary, or the refusal: 3, 21, 9, 11 or 14, with all lists as
+ * before. All lists from faces on are for the call's own use: seen needs a place a node, the others one a triangle. */
+SokdribAsymmetry sokdrib_asymmetry(
+    const double (*nodes)[3],
+    size_t nodes_len,
+    const uint32_t (*tris)[6],
+    size_t tris_len,
+    SokdribMirror mirror,
+    double (*faces)[9],
+    size_t faces_len,
+    uint64_t *kx,
+    size_t kx_len,
+    uint64_t *ky,
+    size_t ky_len,
+    uint64_t *kz,
+    size_t kz_len,
+    uint32_t *order,
+    size_t order_len,
+    uint32_t *scratch,
+    size_t scratch_len,
+    double (*boxes)[6],
+    size_t boxes_len,
+    bool *seen,
+    size_t seen_len
+);
+
+/* How far the points reach to the side that the plane's normal looks to, and to the other, where they are off its middle by more than a tenth of their
+ * width; or the refusal: 3, 9 or 11. */
+SokdribOffCentre sokdrib_off_centre(const double (*points)[3], size_t points_len, SokdribMirror mirror);
 
 /* Whether solid of a part's total volume, held solid, leaves no room to come down to target. */
 bool sokdrib_no_room(double solid, double total, double target);

@@ -33,6 +33,24 @@ const _: () = assert!(size_of::<Made>() == 16 && align_of::<Made>() == 4);
 
 #[repr(C)]
 #[derive(Clone, Copy, Debug, Default, PartialEq)]
+pub struct Asymmetry {
+    pub refused: u32,
+    pub distance: f64,
+}
+const _: () = assert!(size_of::<Asymmetry>() == 16 && align_of::<Asymmetry>() == 8);
+
+#[repr(C)]
+#[derive(Clone, Copy, Debug, Default, PartialEq)]
+pub struct OffCentre {
+    pub refused: u32,
+    pub off: bool,
+    pub ahead: f64,
+    pub behind: f64,
+}
+const _: () = assert!(size_of::<OffCentre>() == 24 && align_of::<OffCentre>() == 8);
+
+#[repr(C)]
+#[derive(Clone, Copy, Debug, Default, PartialEq)]
 pub struct Start {
     pub refused: u32,
     pub total: f64,
@@ -120,7 +138,7 @@ pub struct Update {
 const _: () = assert!(size_of::<Update>() == 32 && align_of::<Update>() == 8);
 
 mod library {
-    use super::{Kept, Made, Mirror, Projected, RunState, RunStep, RunTold, Start, Update, Vec3};
+    use super::{Asymmetry, Kept, Made, Mirror, OffCentre, Projected, RunState, RunStep, RunTold, Start, Update, Vec3};
 
     unsafe extern "C" {
         /// The size of x.
@@ -269,6 +287,64 @@ mod library {
             edges: *mut u32,
             edges_len: usize,
         ) -> Made;
+        pub unsafe fn sokdrib_passive(
+            nodes: *const [f64; 3],
+            nodes_len: usize,
+            tets: *const [u32; 10],
+            tets_len: usize,
+            tris: *const [u32; 6],
+            tris_len: usize,
+            surfaces: *const u32,
+            surfaces_len: usize,
+            held: *const u32,
+            held_len: usize,
+            loaded: *const u32,
+            loaded_len: usize,
+            starts: *const u32,
+            starts_len: usize,
+            kept: *const u32,
+            kept_len: usize,
+            depths: *const f64,
+            depths_len: usize,
+            marks: *mut bool,
+            marks_len: usize,
+            keep: *mut bool,
+            keep_len: usize,
+            middles: *mut [f64; 3],
+            middles_len: usize,
+            cells: *mut [u64; 3],
+            cells_len: usize,
+            order: *mut u32,
+            order_len: usize,
+            place: *mut u32,
+            place_len: usize,
+            first: *mut u32,
+            first_len: usize,
+        ) -> u32;
+        pub unsafe fn sokdrib_asymmetry(
+            nodes: *const [f64; 3],
+            nodes_len: usize,
+            tris: *const [u32; 6],
+            tris_len: usize,
+            mirror: Mirror,
+            faces: *mut [f64; 9],
+            faces_len: usize,
+            kx: *mut u64,
+            kx_len: usize,
+            ky: *mut u64,
+            ky_len: usize,
+            kz: *mut u64,
+            kz_len: usize,
+            order: *mut u32,
+            order_len: usize,
+            scratch: *mut u32,
+            scratch_len: usize,
+            boxes: *mut [f64; 6],
+            boxes_len: usize,
+            seen: *mut bool,
+            seen_len: usize,
+        ) -> Asymmetry;
+        pub unsafe fn sokdrib_off_centre(points: *const [f64; 3], points_len: usize, mirror: Mirror) -> OffCentre;
         /// Whether solid of a part's total volume, held solid, leaves no room to come down to target.
         pub safe fn sokdrib_no_room(solid: f64, total: f64, target: f64) -> bool;
         pub unsafe fn sokdrib_start(
@@ -630,6 +706,89 @@ pub fn sokdrib_block(
         tris.as_mut_ptr(), tris.len(),
         edges.as_mut_ptr(), edges.len()
     ) }
+}
+
+/// The elements that must stay solid, and 0 or the refusal: 3, 21, 9, 8 or 14, with all lists as before. A triangle has its three corners' numbers and
+/// then those of the middles of its sides, and its surface is in surfaces. held and loaded are numbers of nodes. Set s of kept surfaces is kept from
+/// starts[s] up to starts[s + 1]; its depth is none where it is not finite or not above 0. keep and the lists after it are for the call's own use: keep
+/// needs a place a node, first one more than an element, the others one an element.
+#[allow(clippy::too_many_arguments)]
+pub fn sokdrib_passive(
+    nodes: &[[f64; 3]],
+    tets: &[[u32; 10]],
+    tris: &[[u32; 6]],
+    surfaces: &[u32],
+    held: &[u32],
+    loaded: &[u32],
+    starts: &[u32],
+    kept: &[u32],
+    depths: &[f64],
+    marks: &mut [bool],
+    keep: &mut [bool],
+    middles: &mut [[f64; 3]],
+    cells: &mut [[u64; 3]],
+    order: &mut [u32],
+    place: &mut [u32],
+    first: &mut [u32],
+) -> u32 {
+    // SAFETY: see above.
+    unsafe { library::sokdrib_passive(
+        nodes.as_ptr(), nodes.len(),
+        tets.as_ptr(), tets.len(),
+        tris.as_ptr(), tris.len(),
+        surfaces.as_ptr(), surfaces.len(),
+        held.as_ptr(), held.len(),
+        loaded.as_ptr(), loaded.len(),
+        starts.as_ptr(), starts.len(),
+        kept.as_ptr(), kept.len(),
+        depths.as_ptr(), depths.len(),
+        marks.as_mut_ptr(), marks.len(),
+        keep.as_mut_ptr(), keep.len(),
+        middles.as_mut_ptr(), middles.len(),
+        cells.as_mut_ptr(), cells.len(),
+        order.as_mut_ptr(), order.len(),
+        place.as_mut_ptr(), place.len(),
+        first.as_mut_ptr(), first.len()
+    ) }
+}
+
+/// The farthest that any corner of a boundary triangle, seen in the plane, is from the boundary, or the refusal: 3, 21, 9, 11 or 14, with all lists as
+/// before. All lists from faces on are for the call's own use: seen needs a place a node, the others one a triangle.
+#[allow(clippy::too_many_arguments)]
+pub fn sokdrib_asymmetry(
+    nodes: &[[f64; 3]],
+    tris: &[[u32; 6]],
+    mirror: Mirror,
+    faces: &mut [[f64; 9]],
+    kx: &mut [u64],
+    ky: &mut [u64],
+    kz: &mut [u64],
+    order: &mut [u32],
+    scratch: &mut [u32],
+    boxes: &mut [[f64; 6]],
+    seen: &mut [bool],
+) -> Asymmetry {
+    // SAFETY: see above.
+    unsafe { library::sokdrib_asymmetry(
+        nodes.as_ptr(), nodes.len(),
+        tris.as_ptr(), tris.len(),
+        mirror,
+        faces.as_mut_ptr(), faces.len(),
+        kx.as_mut_ptr(), kx.len(),
+        ky.as_mut_ptr(), ky.len(),
+        kz.as_mut_ptr(), kz.len(),
+        order.as_mut_ptr(), order.len(),
+        scratch.as_mut_ptr(), scratch.len(),
+        boxes.as_mut_ptr(), boxes.len(),
+        seen.as_mut_ptr(), seen.len()
+    ) }
+}
+
+/// How far the points reach to the side that the plane's normal looks to, and to the other, where they are off its middle by more than a tenth of their
+/// width; or the refusal: 3, 9 or 11.
+pub fn sokdrib_off_centre(points: &[[f64; 3]], mirror: Mirror) -> OffCentre {
+    // SAFETY: see above.
+    unsafe { library::sokdrib_off_centre(points.as_ptr(), points.len(), mirror) }
 }
 
 /// Where a run starts: the first design, each element's volume where it is not held solid, and the numbers of the whole run.

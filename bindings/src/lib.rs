@@ -9,6 +9,7 @@ pub mod geom;
 pub mod ieee;
 pub mod mesh;
 pub mod oc;
+pub mod region;
 pub mod run;
 pub mod table;
 pub mod topo;

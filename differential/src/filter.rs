@@ -178,7 +178,7 @@ fn huge() -> Vec<Build> {
 }
 
 /// Of a working list what is past its needs; where the build is refused, all.
-fn left<T: Clone>(number: u32, needed: usize, list: &[T]) -> Vec<T> {
+pub fn left<T: Clone>(number: u32, needed: usize, list: &[T]) -> Vec<T> {
     if number == 0 { list[needed..].to_vec() } else { list.to_vec() }
 }
 

@@ -15,6 +15,7 @@ mod lists;
 mod mesh;
 mod oc;
 mod plain;
+mod region;
 mod runs;
 mod strips;
 
@@ -55,6 +56,7 @@ fn main() -> ExitCode {
     };
     leaves::all(&mut run);
     mesh::all(&mut run);
+    region::all(&mut run);
     filter::all(&mut run);
     oc::all(&mut run);
     runs::all(&mut run);

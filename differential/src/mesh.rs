@@ -13,16 +13,16 @@ pub fn all(run: &mut Run) {
     run.jobs("block", 1000, small(), Block::random, block_theirs, block_ours);
 }
 
-fn vector([x, y, z]: [f64; 3]) -> Vec3 {
+pub fn vector([x, y, z]: [f64; 3]) -> Vec3 {
     Vec3::new(x, y, z)
 }
 
-fn stored(v: Vec3) -> [f64; 3] {
+pub fn stored(v: Vec3) -> [f64; 3] {
     [v.x, v.y, v.z]
 }
 
 /// Whether 01's domain has no such node.
-fn outside(p: [f64; 3]) -> bool {
+pub fn outside(p: [f64; 3]) -> bool {
     p.iter().any(|v| !(v.is_finite() && v.abs() <= 1e6))
 }
 
@@ -54,7 +54,7 @@ fn nodes(g: &mut Gen) -> Vec<[f64; 3]> {
 }
 
 /// Ten of the nodes; now and then one that is not there.
-fn tet(g: &mut Gen, nodes: usize) -> [u32; 10] {
+pub fn tet(g: &mut Gen, nodes: usize) -> [u32; 10] {
     let past = g.below(8) == 0;
     std::array::from_fn(|_| match g.below(8) {
         0 if past => g.pick(&[nodes as u32, u32::MAX, 1 << 31]),

@@ -2,6 +2,7 @@
 mod filters;
 mod lent;
 mod meshes;
+mod regions;
 mod rounds;
 mod runs;
 mod updates;

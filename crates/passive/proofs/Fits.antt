@@ -9,8 +9,8 @@ use lib.Dec.{leb, ltb, eqb}
 use borrow.Author.Tests.{ltb-false, ltb-true, lt-leb, le-leb, ne-eqb}
 use Rattle.lists.specs.Lists.{overwrite, choose}
 use Rattle.lists.proofs.Laws.{passes-on, neither, choose-true, choose-false}
-use Rattle.mesh.specs.Mesh.{nodesOutside}
-use Rattle.passive.specs.Passive.{Problem, Lent, setsIn, passiveAt, tooMany, anyNamesNone, depthsOutside, tooShort, refusalOf, Worked, Marked}
+use Rattle.boundary.specs.Boundary as Boundary
+use Rattle.passive.specs.Passive.{Problem, Lent, setsIn, passiveAt, depthsOutside, tooShort, refusalOf, Worked, Marked}
 use Rattle.passive.specs.Steps.{Roomy, Past}
 
 -- at most, as below one more
@@ -27,7 +27,7 @@ module _ (q : Problem) (l : Lent) where
 
   -- the number that the code finds
   abbrev found : Bool → ℕ
-  found s = choose (tooMany (length (q .tets)) (length (q .tris)) (length (q .nodes))) 3 (choose (anyNamesNone (q .tris) (length (q .nodes))) 21 (choose (nodesOutside (q .nodes)) 9 (choose (depthsOutside (q .depths)) 8 (choose s 14 0))))
+  found s = Boundary.refusalOf (length (q .tets)) (q .nodes) (q .tris) (choose (depthsOutside (q .depths)) 8 (choose s 14 0))
 
   pub refusal-is : (s : Bool) (r : ℕ) → s ≡ short → r ≡ found s → r ≡ refusalOf q l
   unfolding refusalOf
@@ -59,14 +59,12 @@ module _ (q : Problem) (l : Lent) where
       )
 
   pub roomy : refusalOf q l ≡ 0 → Roomy q l
-  unfolding refusalOf
+  unfolding refusalOf Boundary.refusalOf
   roomy e =
-      let a = passes-on (tooMany (length (q .tets)) (length (q .tris)) (length (q .nodes))) 3 _ (omega arith) e in
-      let b = passes-on (anyNamesNone (q .tris) (length (q .nodes))) 21 _ (omega arith) (a .1) in
-      let c = passes-on (nodesOutside (q .nodes)) 9 _ (omega arith) (b .1) in
-      let d = passes-on (depthsOutside (q .depths)) 8 _ (omega arith) (c .1) in
-      let s = long-enough (passes-on short 14 0 (omega arith) (d .1) .0) in
-      let few = ltb-false 65535 (length (q .tets)) (neither (ltb 65535 (length (q .tets))) _ (neither _ (ltb 1048576 (length (q .nodes))) (a .0) .0) .0) in
+      let many = passes-on _ 3 _ (omega arith) e in
+      let rest = passes-on _ 9 _ (omega arith) (passes-on _ 21 _ (omega arith) (many .1) .1) .1 in
+      let s = long-enough (passes-on short 14 0 (omega arith) (passes-on _ 8 _ (omega arith) rest .1) .0) in
+      let few = ltb-false 65535 (length (q .tets)) (neither (ltb 65535 (length (q .tets))) _ (neither _ (ltb 1048576 (length (q .nodes))) (many .0) .0) .0) in
       record {
         few = omega (arith, few);
         surfaced = s .0;

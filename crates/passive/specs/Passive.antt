@@ -4,10 +4,11 @@ use mathlib.Core.Path.{_≡_}
 use mathlib.Core.Bool.{Bool, not, _||_, _&&_}
 use mathlib.Core.List.{List, []}
 use lib.ListN.{length, getD, drop}
-use lib.Dec.{ltb, leb, eqb}
+use lib.Dec.{ltb, eqb}
 use lib.Ieee.{Float, nan, binary64, le, ofBits}
 use Rattle.lists.specs.Lists.{overwrite, anyTo, choose}
-use Rattle.mesh.specs.Mesh.{centroidOf, million64, nodesOutside}
+use Rattle.mesh.specs.Mesh.{centroidOf, million64}
+use Rattle.boundary.specs.Boundary as Boundary
 use Rattle.nodes.specs.Nodes.{inSet, byNodes}
 use Rattle.depth.specs.Depth.{isDepth, byDepth}
 
@@ -32,17 +33,6 @@ passiveAt q e =
     let tet = getD (q .tets) e [] in
     byNodes (q .tris) (q .surfaces) (q .starts) (q .kept) (q .held) (q .loaded) (setsIn q) (length (q .nodes)) tet
     || anyTo (λ s. byDepth (q .nodes) (q .tris) (inSet (q .surfaces) (q .starts) (q .kept) s) (getD (q .depths) s nan) (centroidOf (q .nodes) tet)) (setsIn q)
-
--- 3: "At most 65,535 elements or triangles and 1,048,576 nodes"
-abbrev pub tooMany : ℕ → ℕ → ℕ → Bool
-tooMany elements triangles nodes = (ltb 65535 elements || ltb 65535 triangles) || ltb 1048576 nodes
-
--- 21: "a boundary triangle names a node that isn't there": one of its six, in a mesh of so many nodes
-unfoldable pub namesNone : ℕ → List ℕ → Bool
-namesNone nodes tri = anyTo (λ k. leb nodes (getD tri k 0)) 6
-
-unfoldable pub anyNamesNone : List (List ℕ) → ℕ → Bool
-anyNamesNone tris nodes = anyTo (λ t. namesNone nodes (getD tris t [])) (length tris)
 
 -- 0.001
 abbrev pub thousandth64 : Float
@@ -70,14 +60,12 @@ unfoldable pub tooShort : ℕ → ℕ → ℕ → ℕ → ℕ → ℕ → ℕ �
 tooShort nodes tets tris sets surfaces starts marks keep middles cells order place first =
     ltb surfaces tris || (ltb starts (sets + 1) || (ltb marks tets || (ltb keep nodes || (ltb middles tets || (ltb cells tets || (ltb order tets || (ltb place tets || ltb first (tets + 1))))))))
 
--- 01: "Mesh calls check 3, 21, 9, 11, 8, 14"; there are no planes here. 0 where nothing is refused
+-- 01: "Mesh calls check 3, 21, 9, 11, 8, 14": the first three by the boundary; there are no planes here. 0 where nothing is refused
 unfoldable pub refusalOf : Problem → Lent → ℕ
 refusalOf q l =
-    choose (tooMany (length (q .tets)) (length (q .tris)) (length (q .nodes))) 3
-    (choose (anyNamesNone (q .tris) (length (q .nodes))) 21
-    (choose (nodesOutside (q .nodes)) 9
+    Boundary.refusalOf (length (q .tets)) (q .nodes) (q .tris)
     (choose (depthsOutside (q .depths)) 8
-    (choose (tooShort (length (q .nodes)) (length (q .tets)) (length (q .tris)) (setsIn q) (length (q .surfaces)) (length (q .starts)) (length (l .marks)) (length (l .keep)) (length (l .middles)) (length (l .cells)) (length (l .order)) (length (l .place)) (length (l .first))) 14 0))))
+    (choose (tooShort (length (q .nodes)) (length (q .tets)) (length (q .tris)) (setsIn q) (length (q .surfaces)) (length (q .starts)) (length (l .marks)) (length (l .keep)) (length (l .middles)) (length (l .cells)) (length (l .order)) (length (l .place)) (length (l .first))) 14 0))
 
 -- what is left in a working list of which n places are needed: on a refusal the list as it was lent, else past those places; what stands in them is free
 pub record Worked {A : Type 0} (r n : ℕ) (l l′ : List A) : Type 0 where
