@@ -47,8 +47,28 @@ pub fn open(
 {
     let mut held = history;
     let told = run::open(
-        state, goal, flag, volumes, centroids, passive, mirrors, starts, near, coef, design, density,
-        last, &mut held, cell, order, first, sorted, stamp, weight, found, bits,
+        state,
+        goal,
+        flag,
+        volumes,
+        centroids,
+        passive,
+        mirrors,
+        starts,
+        near,
+        coef,
+        design,
+        density,
+        last,
+        &mut held,
+        cell,
+        order,
+        first,
+        sorted,
+        stamp,
+        weight,
+        found,
+        bits,
     );
     Turn {
         history: held,
