@@ -47,8 +47,28 @@ pub fn open(
 {
     let mut held = history;
     let told = run::open(
-        state, goal, flag, volumes, centroids, passive, mirrors, starts, near, coef, design, density,
-        last, &mut held, cell, order, first, sorted, stamp, weight, found, bits,
+        state,
+        goal,
+        flag,
+        volumes,
+        centroids,
+        passive,
+        mirrors,
+        starts,
+        near,
+        coef,
+        design,
+        density,
+        last,
+        &mut held,
+        cell,
+        order,
+        first,
+        sorted,
+        stamp,
+        weight,
+        found,
+        bits,
     );
     Turn {
         history: held,
@@ -89,8 +109,26 @@ pub fn answer(
 {
     let mut held = history;
     let told = run::answer(
-        state, said, flag, elapsed, allowed, energies, volumes, passive, starts, near, coef, design,
-        density, last, &mut held, free, slope, spare, dc, dv,
+        state,
+        said,
+        flag,
+        elapsed,
+        allowed,
+        energies,
+        volumes,
+        passive,
+        starts,
+        near,
+        coef,
+        design,
+        density,
+        last,
+        &mut held,
+        free,
+        slope,
+        spare,
+        dc,
+        dv,
     );
     Turn {
         history: held,

@@ -67,8 +67,8 @@ fn turn(
 ) -> Turn
     ensures { λ r. ⌜ resultIn r (record { volumes = now (volumes .entry); passive = now (passive .entry); starts = now (starts .entry); near = now (near .entry); coef = now (coef .entry); design = now (design .exit); density = now (density .exit); last = now (last .exit) })
         ≡ answerOf (t .told .state) (answerTo (now (weights .entry)) (length (now (energies .entry))) (now (density .entry)))
-          (lengthsOf (record { free = now (free .entry); slope = now (slope .entry); spare = now (spare .entry); dc = now (dc .entry); dv = now (dv .entry) }))
-          (listsOf (record { volumes = now (volumes .entry); passive = now (passive .entry); starts = now (starts .entry); near = now (near .entry); coef = now (coef .entry); design = now (design .entry); density = now (density .entry); last = now (last .entry) }) (t .history)) ⌝ }
+        (lengthsOf (record { free = now (free .entry); slope = now (slope .entry); spare = now (spare .entry); dc = now (dc .entry); dv = now (dv .entry) }))
+        (listsOf (record { volumes = now (volumes .entry); passive = now (passive .entry); starts = now (starts .entry); near = now (near .entry); coef = now (coef .entry); design = now (design .entry); density = now (density .entry); last = now (last .entry) }) (t .history)) ⌝ }
 {
     solver::solve(weights, &density[..], energies);
     let told = t.told;
@@ -119,9 +119,9 @@ fn rounds(
 ) -> Turn
     ensures { λ r. ⌜ resultIn r (record { volumes = now (volumes .entry); passive = now (passive .entry); starts = now (starts .entry); near = now (near .entry); coef = now (coef .entry); design = now (design .exit); density = now (density .exit); last = now (last .exit) })
         ≡ answersFrom (now (weights .entry)) (length (now (energies .entry)))
-          (lengthsOf (record { free = now (free .entry); slope = now (slope .entry); spare = now (spare .entry); dc = now (dc .entry); dv = now (dv .entry) }))
-          k
-          (resultIn start (record { volumes = now (volumes .entry); passive = now (passive .entry); starts = now (starts .entry); near = now (near .entry); coef = now (coef .entry); design = now (design .entry); density = now (density .entry); last = now (last .entry) })) ⌝ }
+        (lengthsOf (record { free = now (free .entry); slope = now (slope .entry); spare = now (spare .entry); dc = now (dc .entry); dv = now (dv .entry) }))
+        k
+        (resultIn start (record { volumes = now (volumes .entry); passive = now (passive .entry); starts = now (starts .entry); near = now (near .entry); coef = now (coef .entry); design = now (design .entry); density = now (density .entry); last = now (last .entry) })) ⌝ }
 {
     let mut t = start;
     let mut left = k;
@@ -130,8 +130,22 @@ fn rounds(
         let reply = told.reply;
         if asks(reply) {
             t = turn(
-                t, weights, volumes, passive, starts, near, coef, design, density, last, energies,
-                free, slope, spare, dc, dv,
+                t,
+                weights,
+                volumes,
+                passive,
+                starts,
+                near,
+                coef,
+                design,
+                density,
+                last,
+                energies,
+                free,
+                slope,
+                spare,
+                dc,
+                dv,
             );
             left -= 1usize;
         } else {
@@ -174,10 +188,10 @@ pub fn run(
 ) -> Turn
     ensures { λ r. ⌜ resultIn r (record { volumes = now (volumes .entry); passive = now (passive .entry); starts = now (starts .exit); near = now (near .exit); coef = now (coef .exit); design = now (design .exit); density = now (density .exit); last = now (last .exit) })
         ≡ jobOf (now (weights .entry)) (length (now (energies .entry)))
-          (openLengths (record { cell = now (cell .entry); order = now (order .entry); first = now (first .entry); sorted = now (sorted .entry); stamp = now (stamp .entry); weight = now (weight .entry); found = now (found .entry); bits = now (bits .entry) }))
-          (lengthsOf (record { free = now (free .entry); slope = now (slope .entry); spare = now (spare .entry); dc = now (dc .entry); dv = now (dv .entry) }))
-          (record { centroids = now (centroids .entry); mirrors = now (mirrors .entry); goal = goal; flag = false })
-          (listsOf (record { volumes = now (volumes .entry); passive = now (passive .entry); starts = now (starts .entry); near = now (near .entry); coef = now (coef .entry); design = now (design .entry); density = now (density .entry); last = now (last .entry) }) history) ⌝ }
+        (openLengths (record { cell = now (cell .entry); order = now (order .entry); first = now (first .entry); sorted = now (sorted .entry); stamp = now (stamp .entry); weight = now (weight .entry); found = now (found .entry); bits = now (bits .entry) }))
+        (lengthsOf (record { free = now (free .entry); slope = now (slope .entry); spare = now (spare .entry); dc = now (dc .entry); dv = now (dv .entry) }))
+        (record { centroids = now (centroids .entry); mirrors = now (mirrors .entry); goal = goal; flag = false })
+        (listsOf (record { volumes = now (volumes .entry); passive = now (passive .entry); starts = now (starts .entry); near = now (near .entry); coef = now (coef .entry); design = now (design .entry); density = now (density .entry); last = now (last .entry) }) history) ⌝ }
 {
     let t = held::open(
         fresh(),

@@ -77,10 +77,10 @@ pub fn text(
     out: &mut [u8],
 ) -> usize
     ensures { λ r. ⌜ Wrote (textOf (outcomeOf (jobOf (now (weights .entry)) (length (now (energies .entry)))
-          (openLengths (record { cell = now (cell .entry); order = now (order .entry); first = now (first .entry); sorted = now (sorted .entry); stamp = now (stamp .entry); weight = now (weight .entry); found = now (found .entry); bits = now (bits .entry) }))
-          (lengthsOf (record { free = now (free .entry); slope = now (slope .entry); spare = now (spare .entry); dc = now (dc .entry); dv = now (dv .entry) }))
-          (record { centroids = now (centroids .entry); mirrors = now (mirrors .entry); goal = goal; flag = false })
-          (listsOf (record { volumes = now (volumes .entry); passive = now (passive .entry); starts = now (starts .entry); near = now (near .entry); coef = now (coef .entry); design = now (design .entry); density = now (density .entry); last = now (last .entry) }) history))))
+        (openLengths (record { cell = now (cell .entry); order = now (order .entry); first = now (first .entry); sorted = now (sorted .entry); stamp = now (stamp .entry); weight = now (weight .entry); found = now (found .entry); bits = now (bits .entry) }))
+        (lengthsOf (record { free = now (free .entry); slope = now (slope .entry); spare = now (spare .entry); dc = now (dc .entry); dv = now (dv .entry) }))
+        (record { centroids = now (centroids .entry); mirrors = now (mirrors .entry); goal = goal; flag = false })
+        (listsOf (record { volumes = now (volumes .entry); passive = now (passive .entry); starts = now (starts .entry); near = now (near .entry); coef = now (coef .entry); design = now (design .entry); density = now (density .entry); last = now (last .entry) }) history))))
         0 (now (out .entry)) (now (out .exit)) r ⌝ }
 {
     let t = job::run(

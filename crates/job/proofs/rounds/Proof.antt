@@ -14,7 +14,7 @@ Inv-loop k weights volumes passive starts near coef design₀ density₀ last₀
     (length design ≡ length design₀) × (length density ≡ length density₀) × (length last ≡ length last₀) × (length energies ≡ length energies₀)
     × Long (record { free = free; slope = slope; spare = spare; dc = dc; dv = dv }) (record { free = free₀; slope = slope₀; spare = spare₀; dc = dc₀; dv = dv₀ })
     × (answersFrom weights (length energies₀) (lengthsOf (record { free = free₀; slope = slope₀; spare = spare₀; dc = dc₀; dv = dv₀ })) left (resultIn t (record { volumes = volumes; passive = passive; starts = starts; near = near; coef = coef; design = design; density = density; last = last }))
-      ≡ answersFrom weights (length energies₀) (lengthsOf (record { free = free₀; slope = slope₀; spare = spare₀; dc = dc₀; dv = dv₀ })) left₀ (resultIn t₀ (record { volumes = volumes; passive = passive; starts = starts; near = near; coef = coef; design = design₀; density = density₀; last = last₀ })))
+    ≡ answersFrom weights (length energies₀) (lengthsOf (record { free = free₀; slope = slope₀; spare = spare₀; dc = dc₀; dv = dv₀ })) left₀ (resultIn t₀ (record { volumes = volumes; passive = passive; starts = starts; near = near; coef = coef; design = design₀; density = density₀; last = last₀ })))
 
 abbrev μ-loop : tie.MeasureT-loop
 μ-loop k weights volumes passive starts near coef design₀ density₀ last₀ energies₀ free₀ slope₀ spare₀ dc₀ dv₀ t₀ left₀ design density last energies free slope spare dc dv t left = left
@@ -45,17 +45,18 @@ loop-again c =
     let last = c .before .before .before .before .before .before .before .before .before .before .before .before .before .before .before .before .before .before .turn .last in
     let long = x .inv .4 in
     let w : Work = record { free = x .free; slope = x .slope; spare = x .spare; dc = x .dc; dv = x .dv } in
-    let w₀ : Work = record { free = a .free .now; slope = a .slope .now; spare = a .spare .now; dc = a .dc .now; dv = a .dv .now } in
-    (kept .1 .1 .1 .1 .1 .1 .1 .0 ∙ x .inv .0,
-    kept .1 .1 .1 .1 .1 .1 .1 .1 .0 ∙ x .inv .1,
-    kept .1 .1 .1 .1 .1 .1 .1 .1 .1 .0 ∙ x .inv .2,
-    kept .1 .1 .1 .1 .1 .1 .1 .1 .1 .1 .0 ∙ x .inv .3,
-    record { free = kept .1 .1 .1 .1 .1 .1 .1 .1 .1 .1 .1 .0 ∙ long .free; slope = kept .1 .1 .1 .1 .1 .1 .1 .1 .1 .1 .1 .1 .0 ∙ long .slope; spare = kept .1 .1 .1 .1 .1 .1 .1 .1 .1 .1 .1 .1 .1 .0 ∙ long .spare; dc = kept .1 .1 .1 .1 .1 .1 .1 .1 .1 .1 .1 .1 .1 .1 .0 ∙ long .dc; dv = kept .1 .1 .1 .1 .1 .1 .1 .1 .1 .1 .1 .1 .1 .1 .1 .0 ∙ long .dv },
-    answers-more (a .weights .now) (length (x .energies)) (length (a .energies .now)) (lengthsOf w) (lengthsOf w₀) (x .left)
-        (resultIn (x .t) (record { volumes = a .volumes .now; passive = a .passive .now; starts = a .starts .now; near = a .near .now; coef = a .coef .now; design = x .design; density = x .density; last = x .last }))
-        (resultIn (c .before .before .before .before .before .before .before .before .before .before .before .before .before .before .before .before .before .before .turn .result) (record { volumes = a .volumes .now; passive = a .passive .now; starts = a .starts .now; near = a .near .now; coef = a .coef .now; design = last .1 .1 .1 .1 .1 .1 .1 .0; density = last .1 .1 .1 .1 .1 .1 .1 .1 .0; last = last .1 .1 .1 .1 .1 .1 .1 .1 .1 .0 }))
-        (x .inv .3) (same-lengths w w₀ long) (sym (c .before .before .before .before .before .before .before .before .before .before .before .before .before .before .before .before .before .before .before .before .before .before .before .before .before .before .before .before .before .asks .ensures) ∙ c .before .before .before .before .before .before .before .before .before .before .before .before .before .before .before .before .before .before .before .before .before .before .before .before .before .before .before .before .if1 .taken) (c .before .before .before .before .before .before .before .before .before .before .before .before .before .before .before .before .before .before .before .before .before .before .before .before .before .before .before .before .before .before .before .loop-test .taken) (c .before .before .before .before .before .before .before .before .before .before .before .before .before .before .before .before .before .before .turn .ensures)
-    ∙ x .inv .5)
+    let w₀ : Work = record { free = a .free .now; slope = a .slope .now; spare = a .spare .now; dc = a .dc .now; dv = a .dv .now } in (
+      kept .1 .1 .1 .1 .1 .1 .1 .0 ∙ x .inv .0,
+      kept .1 .1 .1 .1 .1 .1 .1 .1 .0 ∙ x .inv .1,
+      kept .1 .1 .1 .1 .1 .1 .1 .1 .1 .0 ∙ x .inv .2,
+      kept .1 .1 .1 .1 .1 .1 .1 .1 .1 .1 .0 ∙ x .inv .3,
+      record { free = kept .1 .1 .1 .1 .1 .1 .1 .1 .1 .1 .1 .0 ∙ long .free; slope = kept .1 .1 .1 .1 .1 .1 .1 .1 .1 .1 .1 .1 .0 ∙ long .slope; spare = kept .1 .1 .1 .1 .1 .1 .1 .1 .1 .1 .1 .1 .1 .0 ∙ long .spare; dc = kept .1 .1 .1 .1 .1 .1 .1 .1 .1 .1 .1 .1 .1 .1 .0 ∙ long .dc; dv = kept .1 .1 .1 .1 .1 .1 .1 .1 .1 .1 .1 .1 .1 .1 .1 .0 ∙ long .dv },
+      answers-more (a .weights .now) (length (x .energies)) (length (a .energies .now)) (lengthsOf w) (lengthsOf w₀) (x .left)
+          (resultIn (x .t) (record { volumes = a .volumes .now; passive = a .passive .now; starts = a .starts .now; near = a .near .now; coef = a .coef .now; design = x .design; density = x .density; last = x .last }))
+          (resultIn (c .before .before .before .before .before .before .before .before .before .before .before .before .before .before .before .before .before .before .turn .result) (record { volumes = a .volumes .now; passive = a .passive .now; starts = a .starts .now; near = a .near .now; coef = a .coef .now; design = last .1 .1 .1 .1 .1 .1 .1 .0; density = last .1 .1 .1 .1 .1 .1 .1 .1 .0; last = last .1 .1 .1 .1 .1 .1 .1 .1 .1 .0 }))
+          (x .inv .3) (same-lengths w w₀ long) (sym (c .before .before .before .before .before .before .before .before .before .before .before .before .before .before .before .before .before .before .before .before .before .before .before .before .before .before .before .before .before .asks .ensures) ∙ c .before .before .before .before .before .before .before .before .before .before .before .before .before .before .before .before .before .before .before .before .before .before .before .before .before .before .before .before .if1 .taken) (c .before .before .before .before .before .before .before .before .before .before .before .before .before .before .before .before .before .before .before .before .before .before .before .before .before .before .before .before .before .before .before .loop-test .taken) (c .before .before .before .before .before .before .before .before .before .before .before .before .before .before .before .before .before .before .turn .ensures)
+          ∙ x .inv .5,
+    )
 
 same-length : tie.Need-same-length Inv-loop μ-loop
 same-length c = c .before .before .before .before .loop .inv .0

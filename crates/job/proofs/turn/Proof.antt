@@ -52,8 +52,8 @@ returns c =
     let a = c .before .before .before .before .before .before .before .before .before .before .before .before .before .before .before .before .before .before .before .before .before .before .before .before .before .before .before .before .before .before .before .before .before .before .before .before .before .before .before .before .before .before .before .before .before .before .before .before .args in
     c .before .before .before .before .before .before .before .before .before .before .before .before .before .before .before .before .answer .ensures .same
     ∙ ap (λ (u : List Float). answerOf (a .t .told .state) (record { said = Gave; energies = u; flag = false; elapsed = 0; allowed = 1 })
-        (lengthsOf (record { free = a .free .now; slope = a .slope .now; spare = a .spare .now; dc = a .dc .now; dv = a .dv .now }))
-        (listsOf (record { volumes = a .volumes .now; passive = a .passive .now; starts = a .starts .now; near = a .near .now; coef = a .coef .now; design = a .design .now; density = a .density .now; last = a .last .now }) (a .t .history)))
+    (lengthsOf (record { free = a .free .now; slope = a .slope .now; spare = a .spare .now; dc = a .dc .now; dv = a .dv .now }))
+    (listsOf (record { volumes = a .volumes .now; passive = a .passive .now; starts = a .starts .now; near = a .near .now; coef = a .coef .now; design = a .design .now; density = a .density .now; last = a .last .now }) (a .t .history)))
     (c .before .before .before .before .before .before .before .before .before .before .before .before .before .before .before .before .before .before .before .before .before .before .before .before .before .before .before .before .before .before .solve .ensures)
 
 pub turn-spec : {M : Type 1} → statement M

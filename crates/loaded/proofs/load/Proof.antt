@@ -165,12 +165,12 @@ returns-3 c =
     let n = elementsOf (a .bytes .now) in
     let k = mirrorsOf (a .bytes .now) in
     loaded (a .bytes .now) p _ l _ job w ((λ i. tooShort l (sym en i) (sym ek i)) ∙ c .before .before .before .before .before .before .before .before .before .before .before .before .before .before .before .before .before .before .if1 .left)
-        (c .before .before .before .before .before .before .before .before .before .before .before .before .before .before .before .numbers .ensures ∙ ap (λ (j : ℕ). overwrite (floatAt (c .before .before .before .before .before .before .before .before .before .before .before .before .before .before .before .before .before .before .before .before .before .before .before .before .before .before .before .before .before .before .read .last .1 .0)) j (l .volumes)) en)
-        (c .before .before .before .before .before .before .before .before .before .before .points .ensures ∙ ap (λ (j : ℕ). overwrite (λ i. pointOf (getD (c .before .before .before .before .before .before .before .before .before .before .before .before .before .before .before .before .before .before .before .before .before .before .before .before .before .before .before .before .before .before .read .last .1 .1 .0) i [])) j (l .centroids)) en)
-        (c .before .before .before .before .before .before .numbers2 .ensures ∙ ap (λ (j : ℕ). overwrite (floatAt (c .before .before .before .before .before .before .before .before .before .before .before .before .before .before .before .before .before .before .before .before .before .before .before .before .before .before .before .before .before .before .read .last .1 .1 .1 .0)) j (l .weights)) en)
-        refl
-        refl
-        (c .before .planes .ensures ∙ ap (λ (j : ℕ). overwrite (λ i. planeOf (getD (c .before .before .before .before .before .before .before .before .before .before .before .before .before .before .before .before .before .before .before .before .before .before .before .before .before .before .before .before .before .before .read .last .1 .1 .1 .1 .1 .0) i [])) j (l .mirrors)) ek)
+    (c .before .before .before .before .before .before .before .before .before .before .before .before .before .before .before .numbers .ensures ∙ ap (λ (j : ℕ). overwrite (floatAt (c .before .before .before .before .before .before .before .before .before .before .before .before .before .before .before .before .before .before .before .before .before .before .before .before .before .before .before .before .before .before .read .last .1 .0)) j (l .volumes)) en)
+    (c .before .before .before .before .before .before .before .before .before .before .points .ensures ∙ ap (λ (j : ℕ). overwrite (λ i. pointOf (getD (c .before .before .before .before .before .before .before .before .before .before .before .before .before .before .before .before .before .before .before .before .before .before .before .before .before .before .before .before .before .before .read .last .1 .1 .0) i [])) j (l .centroids)) en)
+    (c .before .before .before .before .before .before .numbers2 .ensures ∙ ap (λ (j : ℕ). overwrite (floatAt (c .before .before .before .before .before .before .before .before .before .before .before .before .before .before .before .before .before .before .before .before .before .before .before .before .before .before .before .before .before .before .read .last .1 .1 .1 .0)) j (l .weights)) en)
+    refl
+    refl
+    (c .before .planes .ensures ∙ ap (λ (j : ℕ). overwrite (λ i. planeOf (getD (c .before .before .before .before .before .before .before .before .before .before .before .before .before .before .before .before .before .before .before .before .before .before .before .before .before .before .before .before .before .before .read .last .1 .1 .1 .1 .1 .0) i [])) j (l .mirrors)) ek)
 
 pub load-spec : {M : Type 1} → statement M
 load-spec =
