@@ -7,6 +7,7 @@
 //! the Rust's loop as the compiler makes it; a line "calls" is one call for each element on both sides. Then prints milliseconds a call of
 //! meshes, the filter, the update and whole runs, on blocks of tetrahedra: the Rust makes its lists in each call, and the library is lent them.
 mod meshes;
+mod regions;
 mod rounds;
 mod runs;
 
@@ -122,6 +123,7 @@ fn main() {
     line("dist2_to_triangle, calls", repetitions, our_calls, rust_calls);
     println!("\n{:<40} {:>13} {:>13} {:>7}", "best of each side", "ours", "Rust", "ratio");
     meshes::all(repetitions);
+    regions::all(repetitions);
     rounds::all(repetitions);
     runs::all(repetitions);
 }

@@ -6,7 +6,7 @@ use crate::fields;
 use crate::filter::left;
 use crate::inputs::Gen;
 use crate::lists::number;
-use crate::mesh::{lent, outside, stored, tet, vector};
+use crate::mesh::{outside, stored, tet, vector};
 use sokdrib::geom;
 use sokdrib::region::{self, AsymmetryWork, Kept, PassiveWork};
 use tenon::Vec3;
@@ -17,8 +17,9 @@ use tenon::topo::Mirror;
 use tenon::topo::region as original;
 
 pub fn all(run: &mut Run) {
-    run.jobs("passive", 250, large(run.long), Passive::random, passive_theirs, passive_ours);
-    run.jobs("asymmetry", 100, many(run.long), Soup::random, asymmetry_theirs, asymmetry_ours);
+    run.jobs("passive", 50, large(run.long), Passive::random, passive_theirs, passive_ours);
+    run.jobs("asymmetry", 40, many(run.long), Soup::random, asymmetry_theirs, asymmetry_ours);
+    run.jobs("asymmetry_tree", 40, many(run.long), Soup::random, tree_theirs, tree_ours);
     run.jobs("off_centre", 20, points(), Points::random, off_centre_theirs, off_centre_ours);
 }
 
@@ -161,12 +162,15 @@ impl Passive {
         }
     }
 
-    /// A box's mesh, maybe with its nodes moved, and nothing kept yet.
+    /// A box's mesh, maybe with its nodes moved, and nothing kept yet. Half of them have cells whose middles are at exact distances.
     fn block(g: &mut Gen, cells: [usize; 3]) -> Passive {
-        let size: [f64; 3] = std::array::from_fn(|_| g.pick(&[1.0, 4.0, 0.1, 20.0, 1000.0]) * (0.5 + g.unit()));
+        let side = g.pick(&[1.0, 0.5, 4.0]);
+        let (size, moved, by) = match g.below(2) {
+            0 => (cells.map(|c| c as f64 * side), 0.0, g.pick(&[0.0, -3.25])),
+            _ => (cells.map(|_| 20.0 * g.unit()), g.pick(&[0.0, 1e-3, 0.3, 1e-12]), g.pick(&[0.0, 1e5])),
+        };
         let mesh = TetMesh::block(cells, vector(size));
         let (tris, surfaces) = boundary(&mesh);
-        let (moved, by) = (g.pick(&[0.0, 0.0, 1e-3, 0.3, 1e-12]), g.pick(&[0.0, 0.0, 1e5, -3.25]));
         let nodes = mesh.nodes.iter().map(|p| stored(*p).map(|v| v + by + moved * g.signed())).collect();
         Passive { nodes, tets: mesh.tets, tris, surfaces, ..Passive::none() }
     }
@@ -210,22 +214,27 @@ impl Passive {
         [0, 1, 2].map(|i| vector(self.nodes[self.tris[t][i] as usize]))
     }
 
-    /// A depth: just reaching a middle, about a triangle's side, of any size in the domain, outside it, or none.
-    fn depth(&self, g: &mut Gen) -> f64 {
-        let own = if self.tets.is_empty() || self.tris.is_empty() { g.below(4) } else { g.below(16) };
+    /// A depth for a set: just reaching a middle, about a triangle's side, of any size in the domain, outside it, or none.
+    fn depth(&self, g: &mut Gen, set: &[u32]) -> f64 {
+        let tris: Vec<usize> = (0..self.tris.len()).filter(|t| set.contains(&self.surfaces[*t])).collect();
+        let own = if self.tets.is_empty() || tris.is_empty() { g.below(4) } else { g.below(16) };
         let depth = match own {
             0 => return g.pick(&[f64::NAN, -f64::NAN, f64::INFINITY, f64::NEG_INFINITY, 0.0, -0.0, -1.0]),
             1 => g.pick(&[0.001, 1e6, 1.0, 0.5, 2.0]),
             2 => 10f64.powf(9.0 * g.unit() - 3.0),
             3 => 4.0 * g.unit(),
             4..8 => {
-                let [a, b, c] = self.corners(g.below(self.tris.len()));
+                let [a, b, c] = self.corners(g.pick(&tris));
                 g.pick(&[a.dist(b), b.dist(c), c.dist(a)]) * g.pick(&[1.0, 1.0, 1.0, 0.5, 2.0])
             }
             _ => {
+                // The least distance to the set, of a middle.
                 let middle = self.mesh().centroid(&self.tets[g.below(self.tets.len())]);
-                let [a, b, c] = self.corners(g.below(self.tris.len()));
-                dist2_to_triangle(middle, a, b, c).sqrt()
+                let dist2 = |t: &usize| {
+                    let [a, b, c] = self.corners(*t);
+                    dist2_to_triangle(middle, a, b, c)
+                };
+                tris.iter().map(dist2).fold(f64::INFINITY, f64::min).sqrt()
             }
         };
         let depth = g.nudged(depth);
@@ -242,14 +251,15 @@ impl Passive {
             }
             _ => Passive::soup(g),
         };
-        let n = p.nodes.len() + 1;
+        let n = p.nodes.len();
         for list in [&mut p.held, &mut p.loaded] {
-            let most = g.pick(&[0, 0, 1, 3]);
-            *list = (0..g.below(most + 1)).map(|_| g.pick(&[g.below(n) as u32, n as u32, u32::MAX])).collect();
+            let most = g.pick(&[1, 1, 2, 4]);
+            // The last of these numbers are no nodes.
+            *list = (0..g.below(most)).map(|_| g.below(n + 3)).map(|k| if k == n + 2 { u32::MAX } else { k as u32 }).collect();
         }
         for _ in 0..g.pick(&[0, 1, 1, 1, 2, 3]) {
             let surfaces: Vec<u32> = (0..g.pick(&[0, 1, 1, 1, 2, 5])).map(|_| g.below(7) as u32).collect();
-            let depth = p.depth(g);
+            let depth = p.depth(g, &surfaces);
             p.keep(&surfaces, depth);
         }
         if g.below(16) == 0 {
@@ -346,11 +356,7 @@ fn passive_theirs(p: Passive) -> Marked {
     let (mut marks, work) = (p.marks(), p.work());
     let bad = |d: &f64| d.is_finite() && *d > 0.0 && !(0.001..=1e6).contains(d);
     let few = p.surfaces.len() < p.tris.len() || p.starts.len() <= p.depths.len() || short(p.lent, p.needs());
-    let k = first([
-        refused(p.tets.len(), &p.nodes, &p.tris),
-        if p.depths.iter().any(bad) { 8 } else { 0 },
-        if few { 14 } else { 0 },
-    ]);
+    let k = first([refused(p.tets.len(), &p.nodes, &p.tris), if p.depths.iter().any(bad) { 8 } else { 0 }, if few { 14 } else { 0 }]);
     if k == 0 {
         let problem = Problem {
             mesh: p.mesh(),
@@ -416,7 +422,10 @@ fn plane(g: &mut Gen, at: [f64; 3]) -> [f64; 6] {
         }
     };
     let off = g.pick(&[0.0, 0.0, 1e-9, 0.3, 10.0]);
-    let p = at.map(|v| g.nudged((v + off * g.signed()).clamp(-1e6, 1e6)).clamp(-1e6, 1e6));
+    let p = at.map(|v| {
+        let beside = v + off * g.signed();
+        g.nudged(beside).clamp(-1e6, 1e6)
+    });
     [p[0], p[1], p[2], normal[0], normal[1], normal[2]]
 }
 
@@ -578,12 +587,18 @@ fn trees(k: u32, s: &Soup, w: &AsymmetryWork) -> Trees {
     }
 }
 
+impl Soup {
+    fn refused(&self) -> u32 {
+        first([
+            refused(0, &self.nodes, &self.tris),
+            if plane_bad(self.plane) { 11 } else { 0 },
+            if short(self.lent, self.needs()) { 14 } else { 0 },
+        ])
+    }
+}
+
 fn asymmetry_theirs(s: Soup) -> Measured {
-    let k = first([
-        refused(0, &s.nodes, &s.tris),
-        if plane_bad(s.plane) { 11 } else { 0 },
-        if short(s.lent, s.needs()) { 14 } else { 0 },
-    ]);
+    let k = s.refused();
     let far = if k == 0 {
         let mesh = TetMesh {
             nodes: s.nodes.iter().map(|p| vector(*p)).collect(),
@@ -603,6 +618,48 @@ fn asymmetry_ours(s: Soup) -> Measured {
     let told = region::asymmetry(&s.nodes, &s.tris, ours(s.plane), &mut work);
     let k = number(&told);
     (k, told.unwrap_or(0.0), trees(k, &s, &work))
+}
+
+/// A tree: its boxes, each before those that it is split into, and the triangles of each leaf box by number, which no distance hangs on the
+/// order of.
+type Branches = (Vec<[f64; 6]>, Vec<Vec<u32>>);
+
+fn leaf(triangles: &[u32]) -> Vec<u32> {
+    let mut all = triangles.to_vec();
+    all.sort_unstable();
+    all
+}
+
+fn tree_theirs(s: Soup) -> Branches {
+    let tris: Vec<[Vec3; 3]> = match s.refused() {
+        0 => s.tris.iter().map(|t| [0, 1, 2].map(|i| vector(s.nodes[t[i] as usize]))).collect(),
+        _ => Vec::new(),
+    };
+    let Some(tree) = original::Tree::new(&tris) else { return Branches::default() };
+    let boxes = tree.nodes.iter().map(|b| [b.lo.x, b.lo.y, b.lo.z, b.hi.x, b.hi.y, b.hi.z]).collect();
+    let leaves = tree.nodes.iter().filter(|b| b.split.is_none()).map(|b| leaf(&tree.order[b.first as usize..][..b.count as usize]));
+    (boxes, leaves.collect())
+}
+
+/// The tree that a part of the order and of the boxes has: the part's own box is at its middle place.
+fn branches(order: &[u32], boxes: &[[f64; 6]], into: &mut Branches) {
+    let half = order.len() / 2;
+    into.0.push(boxes[half]);
+    if order.len() <= 4 {
+        into.1.push(leaf(order));
+    } else {
+        branches(&order[..half], &boxes[..half], into);
+        branches(&order[half..], &boxes[half..], into);
+    }
+}
+
+fn tree_ours(s: Soup) -> Branches {
+    let (mut work, n) = (s.work(), s.tris.len());
+    let mut into = Branches::default();
+    if region::asymmetry(&s.nodes, &s.tris, ours(s.plane), &mut work).is_ok() && n > 0 {
+        branches(&work.order[..n], &work.boxes[..n], &mut into);
+    }
+    into
 }
 
 /// Points and a plane.
@@ -634,7 +691,8 @@ impl Points {
         };
         // Both sides of a tenth.
         if n > 1 && g.below(4) == 0 {
-            let reach = g.nudged(g.pick(&[0.4, 0.6, 0.3, 0.5])) * 10.0;
+            let share = g.pick(&[0.4, 0.6, 0.3, 0.5]);
+            let reach = g.nudged(share) * 10.0;
             points = vec![[reach, 0.0, 0.0], [reach - 10.0, 1.0, 2.0]];
             plane = [0.0, 0.0, 0.0, 1.0, 0.0, 0.0];
         }
@@ -646,7 +704,8 @@ impl Points {
 
 /// 01's proved case, no points, one, and counts at both sides of the domain's.
 fn points() -> Vec<Points> {
-    let along = |n: usize, at: f64| Points { points: (0..n).map(|k| [k as f64 / 1e3, 0.0, 0.0]).collect(), plane: [at, 0.0, 0.0, 1.0, 0.0, 0.0] };
+    let along =
+        |n: usize, at: f64| Points { points: (0..n).map(|k| [k as f64 / 1e3, 0.0, 0.0]).collect(), plane: [at, 0.0, 0.0, 1.0, 0.0, 0.0] };
     let two = |at: f64| Points { points: vec![[0.0; 3], [1.0, 0.0, 0.0]], plane: [at, 0.0, 0.0, 1.0, 0.0, 0.0] };
     vec![two(0.0), two(0.5), along(0, 0.5), along(1, 0.0), along(1, 0.5), along(1_048_576, 524.0), along(1_048_577, 524.0)]
 }
@@ -698,7 +757,15 @@ mod tests {
             if kinds[0] == "refused 0" {
                 let solid = marked(p);
                 let mut turned = p.clone();
-                let part = |n: usize| if n == 0 { "none" } else if n == p.tets.len() { "all" } else { "some" };
+                let part = |n: usize| {
+                    if n == 0 {
+                        "none"
+                    } else if n == p.tets.len() {
+                        "all"
+                    } else {
+                        "some"
+                    }
+                };
                 kinds.push(format!("{} solid", part(solid)));
                 turned.depths.fill(f64::NAN);
                 kinds.push(if marked(&turned) < solid { "by depth".into() } else { "by nodes".into() });
@@ -734,13 +801,16 @@ mod tests {
             let (k, far, _) = asymmetry_theirs(s.clone());
             let mut kinds = vec![format!("refused {k}")];
             if k == 0 {
-                kinds.push(if far == 0.0 { "the same".into() } else if far < 1e-5 { "nearly".into() } else { "apart".into() });
+                kinds.push(if far == 0.0 {
+                    "the same".into()
+                } else if far < 1e-5 {
+                    "nearly".into()
+                } else {
+                    "apart".into()
+                });
                 let at = |k: u32| vector(s.nodes[k as usize]);
-                let middles: Vec<[u64; 3]> = s
-                    .tris
-                    .iter()
-                    .map(|t| stored((at(t[0]) + at(t[1]) + at(t[2])) * (1.0 / 3.0)).map(f64::to_bits))
-                    .collect();
+                let middles: Vec<[u64; 3]> =
+                    s.tris.iter().map(|t| stored((at(t[0]) + at(t[1]) + at(t[2])) * (1.0 / 3.0)).map(f64::to_bits)).collect();
                 let mut apart = middles.clone();
                 apart.sort_unstable();
                 apart.dedup();
@@ -753,7 +823,8 @@ mod tests {
             }
             kinds
         };
-        let wanted = ["refused 0", "refused 21", "refused 9", "refused 11", "refused 14", "the same", "nearly", "apart", "ties", "both zeros"];
+        let wanted =
+            ["refused 0", "refused 21", "refused 9", "refused 11", "refused 14", "the same", "nearly", "apart", "ties", "both zeros"];
         counted("asymmetry", Soup::random, kinds, &wanted);
     }
 

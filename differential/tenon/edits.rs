@@ -56,6 +56,14 @@ pub const EDITS: &[Edit] = &[
     public("topo/filter.rs", "    coef: Vec<f64>,\n", "    pub coef: Vec<f64>,\n"),
     public("topo/filter.rs", "    fn within(", "    pub fn within("),
     //
+    // The tree of the boundary's triangles, which the comparison looks into.
+    public("topo/region.rs", "\nstruct Tree {\n    nodes:", "\npub struct Tree {\n    pub nodes:"),
+    public("topo/region.rs", "    order: Vec<u32>,\n", "    pub order: Vec<u32>,\n"),
+    public("topo/region.rs", "\nstruct Branch {\n    lo: Vec3,\n    hi:", "\npub struct Branch {\n    pub lo: Vec3,\n    pub hi:"),
+    public("topo/region.rs", "    first: u32,\n    count:", "    pub first: u32,\n    pub count:"),
+    public("topo/region.rs", "    split: Option<(u32, u32)>,", "    pub split: Option<(u32, u32)>,"),
+    public("topo/region.rs", "    fn new(tris: &[[Vec3; 3]]) -> Option<Tree>", "    pub fn new(tris: &[[Vec3; 3]]) -> Option<Tree>"),
+    //
     // 01: "`sqrt` and `powf(DAMPING)` are IEEE square root", "x² is one product", and tanh is Lambert's continued fraction.
     replace("topo/oc.rs", "(b / lambda).powf(DAMPING)", "(b / lambda).sqrt()", 1),
     replace("topo/oc.rs", "x.powf(PENALTY - 1.0)", "(x * x)", 1),
