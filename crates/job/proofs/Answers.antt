@@ -1,12 +1,11 @@
 -- Laws of answers one after the other. Assumes nothing.
 use mathlib.Core.Path.{_≡_, refl, sym, ap, _∙_}
-use mathlib.Core.Bool.{Bool, true, false}
+use mathlib.Core.Bool.{true, false}
 use mathlib.Core.List.{List, [], _∷_}
 use Prim.Native.Nat.{ℕ, zero, suc, _-_, _<_}
 use native.Mathlib.Omega.{arith}
 use lib.ListN.{length}
 use lib.Ieee.{Float}
-use Rattle.lists.specs.Lists.{choose}
 use Rattle.lists.proofs.Laws.{choose-true, choose-false}
 use Rattle.plain.specs.Calls.{Result, answerOf}
 use Rattle.answering.specs.Answers.{Work, lengthsOf}

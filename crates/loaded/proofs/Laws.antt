@@ -1,21 +1,20 @@
 -- What a strip's reading tells, and what follows of the lists of floats. Assumes nothing.
 use mathlib.Core.Path.{_≡_, refl, sym, ap, _∙_}
-use mathlib.Core.Bool.{Bool, true, false, not, _&&_, _||_}
+use mathlib.Core.Bool.{Bool, true, false, not, _&&_}
 use mathlib.Core.List.{List, []}
 use Prim.Native.Nat.{ℕ, _+_, _≤_}
 use native.Mathlib.Omega.{arith}
-use lib.Dec.{ltb}
 use lib.ListN.{length, getD}
-use lib.Ieee.{Float, ofBits, binary64}
+use lib.Ieee.{ofBits, binary64}
 use borrow.Author.Tests.{ltb-false}
 use Rattle.lists.specs.Lists.{choose, overwrite}
-use Rattle.lists.proofs.Laws.{choose-true, choose-false, overwrite-same, getD-overwrite-below, length-overwrite, neither}
+use Rattle.lists.proofs.Laws.{overwrite-same, getD-overwrite-below, neither}
 use Rattle.strip.specs.declared.Job.{Job}
 use Rattle.strip.specs.declared.Answer.{Answer}
 use Rattle.strip.specs.declared.Answer.the-variants.{Read, Refused}
 use Rattle.strip.specs.Strip.{Lists as Patterns, Reading, reading, readStrip, accepted, short, filled, jobOf, wordAt, elementsOf, mirrorsOf, elementAt, mirrorAt, numberAt, pointAt, planeAt, flagAt}
 use Rattle.floats.specs.Floats.{floatAt, pointOf, planeOf}
-use Rattle.loaded.specs.Loaded.{Lists, tooShort, filled as filledFloats, loads, Loaded}
+use Rattle.loaded.specs.Loaded.{Lists, tooShort, filled as filledFloats, Loaded}
 
 -- it was read
 pub record Was (bytes : List ℕ) (p p′ : Patterns) (j : Job) : Type 0 where

@@ -10,7 +10,7 @@ use Rattle.plain.specs.Calls.{Result}
 use Rattle.report.specs.Report.{Outcome, refused, ran}
 
 -- how a job ended: refused, or the records that stand and the densities of the last record's round. A job that still asks for a part has not ended;
--- no job does after its answers (`proofs/Ends.antt`)
+-- no job does after its answers (`job-ends`, crates/shown/proofs/Ends.antt)
 abbrev pub outcomeBy : Reply → State → List Iteration → List Float → Outcome
 outcomeBy (Refused n) s history last = refused n
 outcomeBy (Stop why) s history last = ran (s .«solid_compliance») (take (s .rounds) history) why (take (s .elements) last)

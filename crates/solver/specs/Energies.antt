@@ -1,7 +1,7 @@
 -- Document 01, "The job strip and its program": the solver of program `shape`. Definitions only.
 use Prim.Native.Nat.{ℕ}
 use mathlib.Core.List.{List}
-use lib.ListN.{length, getD}
+use lib.ListN.{getD}
 use lib.Ieee.{Float, nan, binary64, mul, div, ofBits}
 use Rattle.lists.specs.Lists.{tabulate}
 use Rattle.ieee.specs.Basic.{one64}

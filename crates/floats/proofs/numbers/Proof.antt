@@ -1,14 +1,13 @@
 -- `numbers` meets its contract. The invariant: the places passed are overwritten. Assumes nothing.
 use borrow.Author.Needs.{needs}
 use mathlib.Core.Path.{_≡_, refl, sym}
-use mathlib.Core.List.{[]}
 use Prim.Native.Nat.{_-_, _≤_}
 use native.Mathlib.Nat.{le-antisymm}
 use native.Mathlib.Omega.{arith}
-use lib.ListN.{length, getD}
+use lib.ListN.{length}
 use Rattle.lists.proofs.Laws.{overwrite-none, overwrite-more}
 use Rattle.lists.specs.Lists.{overwrite}
-use Rattle.floats.specs.Floats.{floatAt, pointOf, planeOf}
+use Rattle.floats.specs.Floats.{floatAt}
 use Rattle.floats.proofs.numbers.Statement.{statement}
 use Rattle.floats.proofs.numbers.Tie as tie
 

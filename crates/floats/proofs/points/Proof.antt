@@ -8,7 +8,7 @@ use native.Mathlib.Omega.{arith}
 use lib.ListN.{length, getD}
 use Rattle.lists.proofs.Laws.{overwrite-none, overwrite-more}
 use Rattle.lists.specs.Lists.{overwrite}
-use Rattle.floats.specs.Floats.{floatAt, pointOf, planeOf}
+use Rattle.floats.specs.Floats.{pointOf}
 use Rattle.floats.proofs.points.Statement.{statement}
 use Rattle.floats.proofs.points.Tie as tie
 

@@ -1,5 +1,4 @@
 -- `rounds` meets its contract. The invariant: the answers that are left give what all give. Assumes nothing.
-use borrow.Author.Needs.{needs}
 use mathlib.Core.Path.{_≡_, refl, sym, _∙_}
 use native.Mathlib.Omega.{arith}
 use lib.ListN.{length}

@@ -1,7 +1,7 @@
 -- `read_all` stays in its lists, and ends. Assumes nothing.
 use borrow.Author.Needs.{needs}
 use mathlib.Core.Path.{_≡_}
-use Prim.Native.Nat.{_-_, _≤_}
+use Prim.Native.Nat.{_≤_}
 use lib.ListN.{length}
 use Rattle.shape.proofs.read_all.Statement.{statement}
 use Rattle.shape.proofs.read_all.Tie as tie

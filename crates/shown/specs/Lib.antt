@@ -1,0 +1,2 @@
+-- `Shown` has a job as calls.
+pub mod Shown

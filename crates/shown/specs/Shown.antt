@@ -1,0 +1,28 @@
+-- A job as a list of calls, each given the lists whole, and the last thing that calls show. Definitions only.
+use mathlib.Core.List.{List, [], _∷_}
+use Prim.Native.Nat.{ℕ, zero, suc}
+use lib.Ieee.{Float}
+use Rattle.lists.specs.Lists.{choose}
+use Rattle.plain.specs.Plain.{Out, Seen}
+use Rattle.plain.specs.Calls.{Lists, Result, answerOf, World, Call, sizesOf, Asked, openOf, fresh}
+use Rattle.job.specs.Job.{answerTo, asks}
+
+-- the answers that `answersFrom` gives
+unfoldable pub taken : List Float → ℕ → List ℕ → ℕ → Result → List Call
+taken weights n work zero r = []
+taken weights n work (suc k) r =
+    choose (asks (r .reply))
+    (record { lent = sizesOf work (r .lists); told = answerTo weights n (r .lists .density) } ∷ taken weights n work k (answerOf (r .state) (answerTo weights n (r .lists .density)) work (r .lists)))
+    []
+
+abbrev pub jobCalls : List Float → ℕ → List ℕ → List ℕ → Asked → Lists → List Call
+jobCalls weights n openWork work g l = taken weights n work 65 (openOf fresh g openWork l)
+
+-- the caller's fresh state and its lists
+abbrev pub start : Lists → World
+start l = record { state = fresh; lists = l }
+
+-- what was shown last; d where nothing was
+unfoldable pub lastOut : Out → List Seen → Out
+lastOut d [] = d
+lastOut d (s ∷ more) = lastOut (s .out) more
