@@ -1,6 +1,6 @@
 -- The laws of `specs/Table.antt`. Assumes nothing.
 use mathlib.Core.Path.{_≡_, refl, ap, _∙_}
-use mathlib.Core.Bool.{Bool, true, false, _&&_, _||_}
+use mathlib.Core.Bool.{Bool, true, false, _&&_}
 use mathlib.Core.List.{List, [], _∷_}
 use mathlib.Core.Logic.{⊎-elim}
 use Prim.Native.Nat.{ℕ, zero, suc, _+_, _-_, _≤_, _<_, zero-le, suc-le-suc}
@@ -12,8 +12,7 @@ use lib.Ieee.{Float}
 use lib.Dec.{ltb, leb}
 use borrow.Author.Tests.{ltb-true, ltb-false, leb-true, leb-false, lt-ltb, le-ltb, le-leb, lt-leb, not-true}
 use Rattle.lists.specs.Lists.{tabulate, overwrite, foldOver, zero64, anyTo, choose}
-use Rattle.lists.proofs.Laws.{length-tabulate, getD-tabulate, foldOver-none, foldTo-keeps, sumOver-none, any-not, both, neither, choose-true}
-use Rattle.table.specs.Steps.{Below}
+use Rattle.lists.proofs.Laws.{length-tabulate, getD-tabulate, foldOver-none, foldTo-keeps, sumOver-none, any-not, both, choose-true}
 use Rattle.table.specs.Table.{rowEnd, rowSum, applied, addTo, rowShare, backed, Within, Wf, wellOf}
 
 -- ---- lists
@@ -161,23 +160,3 @@ module _ (starts near : List ℕ) (coef : List Float) (n m : ℕ) where
           room-coef = omega arith;
           inside = λ k l. wf .inside k (omega arith);
         }
-
--- ---- columns that are tested as their rows are come to
-pub below-none : (near : List ℕ) (a b m : ℕ) → b ≤ a → Below near a b m
-below-none near a b m e k h l = absurd (omega arith)
-
-pub below-more : (near : List ℕ) (a i m : ℕ) (t : Bool) → (t ≡ false → Below near a i m) → (t || leb m (getD near i 0)) ≡ false → Below near a (i + 1) m
-below-more near a i m t before e =
-    let n = neither t (leb m (getD near i 0)) e in
-    λ k h l. ⊎-elim
-    (λ (same : k ≡ i). rw same (leb-false m (getD near i 0) (n .1)))
-    (λ (less : k < i). before (n .0) k h less)
-    (eq-or-lt-of-le (omega arith))
-
--- two parts, the second below less
-pub below-both : (near : List ℕ) (b d m m′ : ℕ) → m′ ≤ m → Below near 0 b m → Below near b d m′ → Below near 0 d m
-below-both near b d m m′ e first second k h l = go (ltb k b) refl
-  where
-    go : (t : Bool) → ltb k b ≡ t → getD near k 0 < m
-    go true w = first k h (ltb-true k b w)
-    go false w = let s = second k (ltb-false k b w) l in omega arith

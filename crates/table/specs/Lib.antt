@@ -1,3 +1,2 @@
--- `Table` has the filter's table, the two products with it, and the test that it is well formed; `Steps` what the steps of a product promise each other.
+-- `Table` has the filter's table, the two products with it, and the test that it is well formed.
 pub mod Table
-pub mod Steps

@@ -1,13 +1,11 @@
 // The filter's table, a sparse matrix by rows in three lent lists, and the two products with it (`apply` and `back` of filter.rs).
 // Lists may be lent longer than the rows use.
 ghost use mathlib.Core.Path.{_≡_};
-ghost use mathlib.Core.Bool.{false};
 ghost use Prim.Native.Nat.{_+_, _≤_, _<_};
 ghost use lib.ListN.{length, getD, set};
 ghost use lib.Dec.{ltb, leb};
 ghost use lib.Ieee.{nan, binary64, add};
 ghost use Rattle.lists.specs.Lists.{tabulate, anyTo, zero64};
-ghost use Rattle.table.specs.Steps.{Below};
 ghost use Rattle.table.specs.Table.{rowEnd, rowSum, applied, rowShare, backed, Within, Wf, wellOf};
 
 // ---- the test
@@ -96,18 +94,6 @@ fn clear(out: &mut [f64])
     }
 }
 
-fn share(near: &[u32], coef: &[f64], v: f64, from: usize, to: usize, out: &mut [f64])
-    requires { ⌜ Within (now near) (now coef) from to (length (now out)) ⌝ }
-    ensures { λ _. ⌜ now (out .exit) ≡ rowShare (now (near .entry)) (now (coef .entry)) v from to (now (out .entry)) ⌝ }
-{
-    let mut k = from;
-    while k < to {
-        let j = near[k] as usize;
-        out[j] = out[j] + coef[k] * v;
-        k += 1usize;
-    }
-}
-
 // ---- with tests, for any contents
 
 fn start_at(starts: &[u32], e: usize) -> usize
@@ -172,7 +158,7 @@ fn add_to(out: &mut [f64], j: usize, v: f64)
     }
 }
 
-fn share_tested(near: &[u32], coef: &[f64], v: f64, from: usize, to: usize, out: &mut [f64])
+fn share(near: &[u32], coef: &[f64], v: f64, from: usize, to: usize, out: &mut [f64])
     ensures { λ _. ⌜ now (out .exit) ≡ rowShare (now (near .entry)) (now (coef .entry)) v from to (now (out .entry)) ⌝ }
 {
     let end = row_end(near, coef, from, to);
@@ -184,70 +170,16 @@ fn share_tested(near: &[u32], coef: &[f64], v: f64, from: usize, to: usize, out:
     }
 }
 
-// Whether a column from place `from` up to `to` is m or above.
-fn past(near: &[u32], from: usize, to: usize, m: u32) -> bool
-    requires { ⌜ (from ≤ to) × (to ≤ length (now near)) ⌝ }
-    ensures { λ r. ⌜ (r ≡ false → Below (now (near .entry)) from to m) ⌝ }
-{
-    let mut t = false;
-    let mut k = from;
-    while k < to {
-        t = t | (m <= near[k]);
-        k += 1usize;
-    }
-    t
-}
-
-// Shares one row, the columns of the first `seen` places being within `out`, and gives for how many places that is known then. A row is tested when it is come
-// to, so that its columns are read from memory once. m is no more than out's length.
-fn share_row(
-    near: &[u32],
-    coef: &[f64],
-    v: f64,
-    from: usize,
-    to: usize,
-    seen: usize,
-    m: u32,
-    out: &mut [f64],
-) -> usize
-    requires { ⌜ Below (now near) 0 seen (length (now out)) × (m ≤ length (now out)) ⌝ }
-    ensures { λ r. ⌜ (now (out .exit) ≡ rowShare (now (near .entry)) (now (coef .entry)) v from to (now (out .entry))) × Below (now (near .entry)) 0 r (length (now (out .entry))) ⌝ }
-{
-    if (from <= to) & (seen <= to) & (to <= near.len()) & (to <= coef.len()) {
-        if past(near, seen, to, m) {
-            share_tested(near, coef, v, from, to, out);
-            return seen;
-        }
-        share(near, coef, v, from, to, out);
-        return to;
-    }
-    share_tested(near, coef, v, from, to, out);
-    seen
-}
-
-// A count of columns as 32 bits, or the most that these hold.
-fn columns(n: usize) -> u32
-    ensures { λ r. ⌜ r ≤ n ⌝ }
-{
-    if n < 4294967296usize {
-        n as u32
-    } else {
-        4294967295
-    }
-}
-
 // Slopes against the filtered densities carried back to the densities: the transposed product, one row for each place of `g`.
 pub fn back(starts: &[u32], near: &[u32], coef: &[f64], g: &[f64], out: &mut [f64])
     ensures { λ _. ⌜ now (out .exit) ≡ backed (now (starts .entry)) (now (near .entry)) (now (coef .entry)) (now (g .entry)) (length (now (g .entry))) (length (now (out .entry))) ⌝ }
 {
     clear(out);
-    let m = columns(out.len());
-    let mut seen = 0usize;
     let mut e = 0usize;
     while e < g.len() {
         let from = start_at(starts, e);
         let to = start_at(starts, e + 1usize);
-        seen = share_row(near, coef, g[e], from, to, seen, m, out);
+        share(near, coef, g[e], from, to, out);
         e += 1usize;
     }
 }

@@ -1,4 +1,4 @@
--- `table::back` meets its contract. The invariant: the shares of the rows passed are added, and the columns seen are within. Assumes nothing.
+-- `table::back` meets its contract. The invariant: the shares of the rows passed are added. Assumes nothing.
 use borrow.Author.Needs.{needs}
 use mathlib.Core.Path.{_≡_, refl, sym}
 use Prim.Native.Nat.{_+_, _-_, _≤_}
@@ -9,26 +9,22 @@ use lib.ListN.{length, getD}
 use lib.Ieee.{nan}
 use Rattle.lists.specs.Lists.{foldTo, zero64}
 use Rattle.lists.proofs.Laws.{foldTo-none, foldTo-more}
-use Rattle.table.specs.Steps.{Below}
 use Rattle.table.specs.Table.{rowShare, backed}
-use Rattle.table.proofs.Laws.{getD-any, below-none}
+use Rattle.table.proofs.Laws.{getD-any}
 use Rattle.table.proofs.back.Statement.{statement}
 use Rattle.table.proofs.back.Tie as tie
 
 abbrev Inv-loop : tie.InvT-loop
-Inv-loop starts near coef g out₀ m seen₀ e₀ out seen e = (e ≤ length g) × (length out ≡ length out₀) × (m ≤ length out₀) × (Below near 0 seen (length out₀)) × (out ≡ foldTo (λ e. rowShare near coef (getD g e zero64) (getD starts e 0) (getD starts (e + 1) 0)) out₀ e)
+Inv-loop starts near coef g out₀ e₀ out e = (e ≤ length g) × (length out ≡ length out₀) × (out ≡ foldTo (λ e. rowShare near coef (getD g e zero64) (getD starts e 0) (getD starts (e + 1) 0)) out₀ e)
 
 abbrev μ-loop : tie.MeasureT-loop
-μ-loop starts near coef g out₀ m seen₀ e₀ out seen e = length g - e
+μ-loop starts near coef g out₀ e₀ out e = length g - e
 
 clear-requires : tie.Need-clear-requires Inv-loop μ-loop
 clear-requires c κs = tt
 
-columns-requires : tie.Need-columns-requires Inv-loop μ-loop
-columns-requires c κs = tt
-
 loop-holds : tie.Need-loop-holds Inv-loop μ-loop
-loop-holds c = (search needs, refl, c .columns .ensures, below-none (now (c .before .before .before .before .before .before .before .before .before .before .args .near)) _ _ _ (omega arith), sym (foldTo-none _ _))
+loop-holds c = (search needs, refl, sym (foldTo-none _ _))
 
 start-at-requires : tie.Need-start-at-requires Inv-loop μ-loop
 start-at-requires c κs = tt
@@ -39,14 +35,14 @@ add-start-at c = search needs
 start-at-requires-2 : tie.Need-start-at-requires-2 Inv-loop μ-loop
 start-at-requires-2 c κs = tt
 
-mul-share-row : tie.Need-mul-share-row Inv-loop μ-loop
-mul-share-row c = search needs
+mul-share : tie.Need-mul-share Inv-loop μ-loop
+mul-share c = search needs
 
-shared-slice-read-share-row : tie.Need-shared-slice-read-share-row Inv-loop μ-loop
-shared-slice-read-share-row c = search needs
+shared-slice-read-share : tie.Need-shared-slice-read-share Inv-loop μ-loop
+shared-slice-read-share c = search needs
 
-share-row-requires : tie.Need-share-row-requires Inv-loop μ-loop
-share-row-requires c κs = let inv = c .before .before .before .before .before .loop .inv in (rw (inv .1) (inv .3), rw (inv .1) (inv .2))
+share-requires : tie.Need-share-requires Inv-loop μ-loop
+share-requires c κs = tt
 
 add-e : tie.Need-add-e Inv-loop μ-loop
 add-e c = search needs
@@ -57,20 +53,15 @@ loop-less c = search needs
 loop-again : tie.Need-loop-again Inv-loop μ-loop
 loop-again c =
     let l = c .before .before .before .before .before .before .before .before .loop in
-    let g = now (c .before .before .before .before .before .before .before .before .before .before .before .before .before .before .before .before .before .before .before .args .g) in (
-      search needs,
-      search needs,
-      l .inv .2,
-      rw (l .inv .1) at (c .before .before .share-row .ensures .1),
-      rw (c .before .before .share-row .ensures .0, c .before .before .before .before .before .start-at2 .ensures, c .before .before .before .before .before .before .start-at .ensures, getD-any g (l .e) nan zero64 (omega arith), l .inv .4) (foldTo-more _ _ _),
-    )
+    let g = now (c .before .before .before .before .before .before .before .before .before .before .before .before .before .before .before .before .before .before .args .g) in
+    (search needs, search needs, rw (c .before .before .share .ensures, c .before .before .before .before .before .start-at2 .ensures, c .before .before .before .before .before .before .start-at .ensures, getD-any g (l .e) nan zero64 (omega arith), l .inv .2) (foldTo-more _ _ _))
 
 same-length : tie.Need-same-length Inv-loop μ-loop
 same-length c = search needs
 
 returns : tie.Need-returns Inv-loop μ-loop
 unfolding backed
-returns c = cc (c .before .loop .inv .4, le-antisymm (c .before .loop .inv .0) (c .loop-test .left), c .before .before .before .before .before .clear .ensures)
+returns c = cc (c .before .loop .inv .2, le-antisymm (c .before .loop .inv .0) (c .loop-test .left), c .before .before .before .before .clear .ensures)
 
 pub back-spec : {M : Type 1} → statement M
 back-spec =
@@ -79,14 +70,13 @@ back-spec =
     Inv-loop
     μ-loop
     clear-requires
-    columns-requires
     loop-holds
     start-at-requires
     add-start-at
     start-at-requires-2
-    mul-share-row
-    shared-slice-read-share-row
-    share-row-requires
+    mul-share
+    shared-slice-read-share
+    share-requires
     add-e
     loop-less
     loop-again
