@@ -1,5 +1,5 @@
 -- The laws of `specs/Lists.antt`. Assumes nothing.
-use mathlib.Core.Path.{_≡_, refl, ap}
+use mathlib.Core.Path.{_≡_, refl, sym, ap, _∙_}
 use mathlib.Core.List.{List, [], _∷_, _++_}
 use Prim.Native.Nat.{ℕ, zero, suc, _+_, _-_, _≤_, _<_, max, zero-le, suc-le-suc}
 use native.Mathlib.Omega.{arith}
@@ -103,6 +103,20 @@ foldOver-more f x a k h =
     let e : (k + 1) - a ≡ suc (k - a) = omega arith in
     let h : a + (k - a) ≡ k = omega arith in
     rw (e, h)
+
+-- from a to k and on to b
+pub foldOver-join : {A : Type 0} (f : ℕ → A → A) (x : A) (a k b : ℕ) → a ≤ k → k ≤ b → foldOver f (foldOver f x a k) k b ≡ foldOver f x a b
+foldOver-join f x a k b h j =
+    let e : k + (b - k) ≡ b = omega arith in
+    ap (foldOver f (foldOver f x a k) k) (sym e) ∙ go (b - k) ∙ ap (foldOver f x a) e
+  where
+    go : (m : ℕ) → foldOver f (foldOver f x a k) k (k + m) ≡ foldOver f x a (k + m)
+    go zero =
+        let e : k + zero ≡ k = omega arith in
+        rw e (foldOver-none f (foldOver f x a k) k k (omega arith))
+    go (suc m) =
+        let e : k + suc m ≡ (k + m) + 1 = omega arith in
+        rw e (sym (foldOver-more f (foldOver f x a k) k (k + m) (omega arith)) ∙ ap (f (k + m)) (go m) ∙ foldOver-more f x a (k + m) (omega arith))
 
 -- a loop that starts at a and runs while k < b stops at the larger of the two
 pub foldOver-end : {A : Type 0} (f : ℕ → A → A) (x : A) (a b k : ℕ) → k ≡ max a b → foldOver f x a k ≡ foldOver f x a b

@@ -25,9 +25,13 @@ rowSum near coef x a b = sumOver (product near coef x) a (rowEnd near coef a b)
 unfoldable pub applied : List ℕ → List ℕ → List Float → List Float → ℕ → List Float
 applied starts near coef x n = tabulate (λ e. rowSum near coef x (getD starts e 0) (getD starts (e + 1) 0)) n
 
--- `*out.get_mut(i) += a * ge` at place k: nothing where the column is past the end
+-- `*out.get_mut(j) += v`: nothing where the column j is past the end
+abbrev pub plusAt : ℕ → Float → List Float → List Float
+plusAt j v out = set out j (add binary64 (getD out j nan) v)
+
+-- the same with `a * ge` at place k
 unfoldable pub addTo : List ℕ → List Float → Float → ℕ → List Float → List Float
-addTo near coef v k out = set out (getD near k 0) (add binary64 (getD out (getD near k 0) nan) (mul binary64 (getD coef k nan) v))
+addTo near coef v k out = plusAt (getD near k 0) (mul binary64 (getD coef k nan) v) out
 
 -- the same at each place of the row from a to b, in order
 unfoldable pub rowShare : List ℕ → List Float → Float → ℕ → ℕ → List Float → List Float
