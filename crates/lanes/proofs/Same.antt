@@ -1,8 +1,7 @@
 -- Two floats that are equal and no zeros are one: neither precedes the other in totalOrder, and a key of that order is one float's. Assumes nothing.
 use mathlib.Core.Path.{_≡_, refl, sym, _∙_}
-use mathlib.Core.List.{_∷_}
 use mathlib.Core.Bool.{Bool, true, false, not, _&&_, _||_, Bool·beq, true≢false}
-use Prim.Native.Nat.{ℕ, zero, suc, _*_, _≤_, _<_, zero-le, suc-le-suc}
+use Prim.Native.Nat.{ℕ, _*_, _≤_, _<_}
 use native.Mathlib.Nat.{le-of-eq, le-antisymm, eq-zero-or-pos, mul-pos}
 use native.Mathlib.Omega.{arith}
 use mathlib.Core.Logic.{⊎-elim}
@@ -11,7 +10,7 @@ use lib.Dec.{T, eqb}
 use borrow.Author.Tests.{ltb-false, le-ltb, eqb-true, eq-eqb}
 use lib.Ieee.{Float, nan, inf, fin, binary64, up, down, lt, eq, ne, isNan, fits, ofBits}
 use lib.Ieee.Fits.{down-pos}
-use Rattle.lists.specs.Lists.{tabulate, zero64}
+use Rattle.lists.specs.Lists.{zero64}
 use Rattle.lists.proofs.Laws.{both}
 use Rattle.ieee.specs.Bits.{precedes, totalKey}
 use Rattle.ieee.proofs.TotalOrder.{precedes-key, key-same}
@@ -60,12 +59,3 @@ eq-same (fin true m i) (fin true n d) f g e z = one-float true m i n d f g (eqb-
 eq-same (fin false m i) (fin false n d) f g e z = one-float false m i n d f g (eqb-true _ _ (both (eqb (m * up i * down d) (n * up d * down i)) _ e .0))
 eq-same (fin true m i) (fin false n d) f g e z = no (sym z ∙ zero-size true m i d (eqb-true _ _ (both (eqb (m * up i * down d) (n * up d * down i)) (eqb (m * up i * down d) 0) e .1)))
 eq-same (fin false m i) (fin true n d) f g e z = no (sym z ∙ zero-size false m i d (eqb-true _ _ (both (eqb (m * up i * down d) (n * up d * down i)) (eqb (m * up i * down d) 0) e .1)))
-
--- two lists of equal elements
-pub tabulate-same : {A : Type 0} (f g : ℕ → A) (n : ℕ) → ((k : ℕ) → k < n → f k ≡ g k) → tabulate f n ≡ tabulate g n
-unfolding tabulate
-tabulate-same f g zero h = refl
-tabulate-same f g (suc n) h =
-    let t : tabulate (λ k. f (suc k)) n ≡ tabulate (λ k. g (suc k)) n = tabulate-same (λ k. f (suc k)) (λ k. g (suc k)) n (λ k l. h (suc k) (suc-le-suc l)) in
-    let s : f zero ≡ g zero = h zero (suc-le-suc zero-le) in
-    λ i. s i ∷ t i

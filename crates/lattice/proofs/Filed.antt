@@ -10,7 +10,7 @@ use lib.Seq.{getD-set-same, getD-set-other, getD-append-seam}
 use lib.Dec.{eqb, ltb}
 use lib.Ieee.{Float}
 use Rattle.lists.specs.Lists.{choose, overwrite}
-use Rattle.lists.proofs.Laws.{choose-true, choose-false, overwrite-same, getD-overwrite-below}
+use Rattle.lists.proofs.Laws.{choose-true, choose-false, overwrite-same, getD-overwrite-below, overwrite-set}
 use Rattle.geom.specs.Vectors.{plus, scaled}
 use Rattle.mesh.specs.Mesh.{stored, point}
 use Rattle.lattice.specs.declared.Grid.{Grid}
@@ -19,7 +19,7 @@ use Rattle.lattice.specs.Filing.{indexIn, strides, slotOf, Filing, betwe
 use Rattle.lattice.proofs.Ways.{Valid, AllValid, index-found}
 use Rattle.lattice.proofs.Ways as Ways
 use Rattle.lattice.proofs.Edges.{same, same-eq, same-refl, valueOf, value-met, value-not, value-new, value-other, meet-met, meet-new, meet-has, all-keeps, length-more}
-use Rattle.lattice.proofs.Lists.{overwrite-one, overwrite-set}
+use Rattle.lattice.proofs.Lists.{overwrite-one}
 
 -- ---- the table's places
 

@@ -1,9 +1,9 @@
 -- Laws of lists that are overwritten. By recursion on the list. Assumes nothing.
 use mathlib.Core.Path.{_≡_, refl, sym, ap, _∙_, subst}
 use mathlib.Core.List.{List, [], _∷_}
-use Prim.Native.Nat.{ℕ, zero, suc, _+_, _<_}
+use Prim.Native.Nat.{ℕ, zero, suc, _+_}
 use native.Mathlib.Omega.{arith}
-use native.Mathlib.Nat.{not-suc-le-zero, le-of-suc-le-suc, suc-add}
+use native.Mathlib.Nat.{suc-add}
 use native.Mathlib.Numerals.{add-one}
 use lib.ListN.{set}
 use Rattle.lists.specs.Lists.{overwrite}
@@ -18,14 +18,6 @@ overwrite-next f (suc n) (x ∷ l) = ap (λ (t : List _). f zero ∷ t) (overwri
 -- one place more; a store past the end changes nothing, and there is no more place
 pub overwrite-one : {A : Type 0} (f : ℕ → A) (n : ℕ) (l : List A) → set (overwrite f n l) n (f n) ≡ overwrite f (n + 1) l
 overwrite-one f n l = rw add-one (overwrite-next f n l)
-
--- what is overwritten may be anything
-pub overwrite-set : {A : Type 0} (f : ℕ → A) (n : ℕ) (l : List A) (i : ℕ) (v : A) → i < n → overwrite f n (set l i v) ≡ overwrite f n l
-unfolding overwrite
-overwrite-set f zero l i v h = absurd (not-suc-le-zero h)
-overwrite-set f (suc n) [] i v h = refl
-overwrite-set f (suc n) (x ∷ l) zero v h = refl
-overwrite-set f (suc n) (x ∷ l) (suc i) v h = ap (λ (t : List _). f zero ∷ t) (overwrite-set (λ k. f (suc k)) n l i v (le-of-suc-le-suc h))
 
 -- as much or more, once more
 pub overwrite-over : {A : Type 0} (f g : ℕ → A) (n k : ℕ) (l : List A) → overwrite f (n + k) (overwrite g n l) ≡ overwrite f (n + k) l

@@ -11,6 +11,13 @@ use lib.ListN.{length, getD, set, drop}
 use lib.Ieee.{Float, binary64, add}
 use Rattle.lists.specs.Lists.{tabulate, overwrite, sumTo, foldTo, zero64, foldOver, sumOver, anyTo, choose}
 
+-- ---- reading
+-- what is read within a list does not depend on what is read past its end
+pub getD-any : {A : Type 0} (l : List A) (k : ℕ) (d d′ : A) → k < length l → getD l k d ≡ getD l k d′
+getD-any [] k d d′ h = absurd (not-suc-le-zero h)
+getD-any (x ∷ l) zero d d′ h = refl
+getD-any (x ∷ l) (suc k) d d′ h = getD-any l k d d′ (le-of-suc-le-suc h)
+
 -- ---- tabulate
 pub length-tabulate : {A : Type 0} (f : ℕ → A) (n : ℕ) → length (tabulate f n) ≡ n
 unfolding tabulate
@@ -22,6 +29,15 @@ unfolding tabulate
 getD-tabulate f zero k d h = absurd (not-suc-le-zero h)
 getD-tabulate f (suc n) zero d h = refl
 getD-tabulate f (suc n) (suc k) d h = getD-tabulate (λ j. f (suc j)) n k d (le-of-suc-le-suc h)
+
+-- two functions that agree below n
+pub tabulate-same : {A : Type 0} (f g : ℕ → A) (n : ℕ) → ((k : ℕ) → k < n → f k ≡ g k) → tabulate f n ≡ tabulate g n
+unfolding tabulate
+tabulate-same f g zero h = refl
+tabulate-same f g (suc n) h =
+    let tail : tabulate (λ k. f (suc k)) n ≡ tabulate (λ k. g (suc k)) n = tabulate-same (λ k. f (suc k)) (λ k. g (suc k)) n (λ k b. h (suc k) (suc-le-suc b)) in
+    let head : f zero ≡ g zero = h zero (suc-le-suc zero-le) in
+    λ i. head i ∷ tail i
 
 -- ---- overwriting
 pub overwrite-none : {A : Type 0} (f : ℕ → A) (l : List A) → overwrite f 0 l ≡ l
@@ -81,6 +97,22 @@ overwrite-same {A} f g (suc n) (x ∷ l) h =
     let tail : overwrite (λ k. f (suc k)) n l ≡ overwrite (λ k. g (suc k)) n l = overwrite-same (λ k. f (suc k)) (λ k. g (suc k)) n l (λ k b. h (suc k) (suc-le-suc b)) in
     let head : f zero ≡ g zero = h zero (suc-le-suc zero-le) in
     λ i. head i ∷ tail i
+
+-- a list overwritten whole
+pub overwrite-all : {A : Type 0} (f : ℕ → A) (n : ℕ) (l : List A) → length l ≡ n → overwrite f n l ≡ tabulate f n
+unfolding overwrite tabulate
+overwrite-all f zero [] h = refl
+overwrite-all f zero (x ∷ l) h = absurd (omega arith)
+overwrite-all f (suc n) [] h = absurd (omega arith)
+overwrite-all f (suc n) (x ∷ l) h = ap (λ (t : List _). f zero ∷ t) (overwrite-all (λ k. f (suc k)) n l (omega arith))
+
+-- what is overwritten may be anything
+pub overwrite-set : {A : Type 0} (f : ℕ → A) (n : ℕ) (l : List A) (i : ℕ) (v : A) → i < n → overwrite f n (set l i v) ≡ overwrite f n l
+unfolding overwrite
+overwrite-set f zero l i v h = absurd (not-suc-le-zero h)
+overwrite-set f (suc n) [] i v h = refl
+overwrite-set f (suc n) (x ∷ l) zero v h = refl
+overwrite-set f (suc n) (x ∷ l) (suc i) v h = ap (λ (t : List _). f zero ∷ t) (overwrite-set (λ k. f (suc k)) n l i v (le-of-suc-le-suc h))
 
 -- ---- folds
 pub foldTo-none : {A : Type 0} (f : ℕ → A → A) (x : A) → foldTo f x 0 ≡ x

@@ -1,15 +1,15 @@
 -- A list of flags to which a step adds those that a test picks; many steps add what any of their tests picks. Assumes nothing.
 use mathlib.Core.Path.{_≡_, refl, sym, ap, _∙_}
 use mathlib.Core.Bool.{Bool, true, false, _||_, _&&_}
-use mathlib.Core.List.{List, [], _∷_}
+use mathlib.Core.List.{List}
 use Prim.Native.Nat.{ℕ, zero, suc, _<_}
 use native.Mathlib.Omega.{arith}
-use lib.ListN.{length, getD, set, length-set, List·getD-eq-default}
+use lib.ListN.{getD, set, length-set, List·getD-eq-default}
 use lib.Seq.{ext-getD, getD-set-same, getD-set-other}
 use lib.Dec.{eqb, ltb}
 use borrow.Author.Tests.{eqb-true, eqb-false, ltb-true, ltb-false}
-use Rattle.lists.specs.Lists.{tabulate, overwrite, foldTo, anyTo, choose}
-use Rattle.lists.proofs.Laws.{length-tabulate, getD-tabulate}
+use Rattle.lists.specs.Lists.{tabulate, foldTo, anyTo, choose}
+use Rattle.lists.proofs.Laws.{length-tabulate, getD-tabulate, tabulate-same}
 
 -- the step sets the flags below n that q picks, and leaves the others
 abbrev pub Adds : ℕ → (List Bool → List Bool) → (ℕ → Bool) → Type 0
@@ -26,18 +26,6 @@ or-false false = refl
 or-assoc : (a b c : Bool) → ((a || b) || c) ≡ (a || (b || c))
 or-assoc true b c = refl
 or-assoc false b c = refl
-
--- functions that agree make the same list
-pub tabulate-same : {A : Type 0} (f g : ℕ → A) (n : ℕ) → ((i : ℕ) → f i ≡ g i) → tabulate f n ≡ tabulate g n
-tabulate-same f g n e = λ j. tabulate (λ i. e i j) n
-
--- a list that is overwritten throughout
-pub overwrite-all : {A : Type 0} (f : ℕ → A) (n : ℕ) (l : List A) → length l ≡ n → overwrite f n l ≡ tabulate f n
-unfolding overwrite tabulate
-overwrite-all f zero [] h = refl
-overwrite-all f zero (x ∷ l) h = absurd (omega arith)
-overwrite-all f (suc n) [] h = absurd (omega arith)
-overwrite-all {A} f (suc n) (x ∷ l) h = ap (λ (t : List A). f zero ∷ t) (overwrite-all (λ k. f (suc k)) n l (omega arith))
 
 -- a flag past the end is none
 pub flag-at : (f : ℕ → Bool) (n i : ℕ) → getD (tabulate f n) i false ≡ (ltb i n && f i)
@@ -64,12 +52,12 @@ module _ (n : ℕ) where
   pub choose-adds : (t : Bool) (step : List Bool → List Bool) (q : ℕ → Bool) → Adds n step q → Adds n (λ l. choose t (step l) l) (λ i. t && q i)
   unfolding choose
   choose-adds true step q a f = a f
-  choose-adds false step q a f = tabulate-same f (λ i. f i || false) n (λ i. sym (or-false (f i)))
+  choose-adds false step q a f = tabulate-same f (λ i. f i || false) n (λ i _. sym (or-false (f i)))
 
   -- step after step
   pub fold-adds : (step : ℕ → List Bool → List Bool) (q : ℕ → ℕ → Bool) → ((k : ℕ) → Adds n (step k) (q k)) → (m : ℕ) → Adds n (λ l. foldTo step l m) (λ i. anyTo (λ k. q k i) m)
   unfolding foldTo anyTo
-  fold-adds step q a zero f = tabulate-same f (λ i. f i || false) n (λ i. sym (or-false (f i)))
+  fold-adds step q a zero f = tabulate-same f (λ i. f i || false) n (λ i _. sym (or-false (f i)))
   fold-adds step q a (suc m) f =
       ap (step m) (fold-adds step q a m f) ∙ a m (λ i. f i || anyTo (λ k. q k i) m)
-      ∙ tabulate-same (λ i. (f i || anyTo (λ k. q k i) m) || q m i) (λ i. f i || (anyTo (λ k. q k i) m || q m i)) n (λ i. or-assoc (f i) (anyTo (λ k. q k i) m) (q m i))
+      ∙ tabulate-same (λ i. (f i || anyTo (λ k. q k i) m) || q m i) (λ i. f i || (anyTo (λ k. q k i) m || q m i)) n (λ i _. or-assoc (f i) (anyTo (λ k. q k i) m) (q m i))

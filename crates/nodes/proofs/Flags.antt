@@ -6,10 +6,10 @@ use Prim.Native.Nat.{ℕ, _+_}
 use lib.ListN.{length, getD, set}
 use lib.Dec.{eqb}
 use Rattle.lists.specs.Lists.{tabulate, overwrite, anyTo, choose}
-use Rattle.lists.proofs.Laws.{foldTo-none, foldTo-more}
+use Rattle.lists.proofs.Laws.{foldTo-none, foldTo-more, overwrite-all}
 use Rattle.nodes.specs.Nodes.{inSet, names, nodeOfSet, keptNode, byNodes}
 use Rattle.nodes.specs.Steps.{flagged, flaggedSet, flaggedSets, anyFlagged}
-use Rattle.nodes.proofs.Adds.{Adds, set-adds, choose-adds, fold-adds, flag-at, overwrite-all}
+use Rattle.nodes.proofs.Adds.{Adds, set-adds, choose-adds, fold-adds, flag-at}
 
 -- one number more, as a loop's turn states it
 pub flagged-none : (l : List ℕ) (keep : List Bool) → keep ≡ flagged l 0 keep

@@ -1,11 +1,10 @@
 -- A loop that fills a list place by place. Assumes nothing.
-use mathlib.Core.Path.{_≡_, ap, _∙_}
+use mathlib.Core.Path.{_≡_, refl, ap, _∙_}
 use mathlib.Core.List.{List}
 use Prim.Native.Nat.{ℕ, _+_, _<_}
 use lib.ListN.{length, getD, set}
 use Rattle.lists.specs.Lists.{tabulate, overwrite}
-use Rattle.lists.proofs.Laws.{overwrite-more, getD-overwrite-here}
-use Rattle.table.proofs.Laws.{overwrite-all}
+use Rattle.lists.proofs.Laws.{overwrite-more, getD-overwrite-here, overwrite-all}
 
 module _ {A : Type 0} (f : ℕ → A) (l o : List A) (i : ℕ) (h : o ≡ overwrite f i l) where
   -- the place that comes next is as it was lent
@@ -18,4 +17,4 @@ module _ {A : Type 0} (f : ℕ → A) (l o : List A) (i : ℕ) (h : o ≡ overwr
 
   -- at its end the whole list is filled, which has n places
   pub filled : (n : ℕ) → i ≡ length l → n ≡ length l → o ≡ tabulate f n
-  filled n e g = h ∙ rw (e, g) (overwrite-all f l)
+  filled n e g = h ∙ rw (e, g) (overwrite-all f _ l refl)

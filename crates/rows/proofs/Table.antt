@@ -11,7 +11,7 @@ use lib.Dec.{eqb}
 use borrow.Author.Tests.{eq-eqb, ne-eqb}
 use lib.Ieee.{Float}
 use Rattle.lists.specs.Lists.{tabulate, overwrite, foldTo}
-use Rattle.lists.proofs.Laws.{choose-true, choose-false, length-tabulate, overwrite-more}
+use Rattle.lists.proofs.Laws.{choose-true, choose-false, length-tabulate, overwrite-more, overwrite-set}
 use Rattle.filter.specs.Filter.{joined, columns, neighbours, start, coefficient, coefficients}
 use Rattle.filter.specs.Build.{laid, tooBig, tooShort, rowRefusal, rowsRefusal}
 use Rattle.rows.specs.Steps.{written, roomRefusal, Rowed, Filled}
@@ -169,11 +169,6 @@ unfolding overwrite
 overwrite-first f [] x e = refl
 overwrite-first {A} f (y ∷ l) x e = ap (λ (v : A). v ∷ l) e
 
-pub overwrite-set : {A : Type 0} (f : ℕ → A) (n : ℕ) (l : List A) (x : A) → overwrite f (n + 1) (set l 0 x) ≡ overwrite f (n + 1) l
-unfolding overwrite
-overwrite-set f n [] x = refl
-overwrite-set f n (y ∷ l) x = rw add-one
-
 -- ---- the table so far: the rows below e are laid, and none was refused
 
 pub record Laid (centroids : List (List Float)) (radius : Float) (planes : List (List Float)) (volumes : List Float) (starts₀ near₀ : List ℕ) (coef₀ : List Float) (e at : ℕ) (starts near : List ℕ) (coef : List Float) : Type 0 where
@@ -251,4 +246,4 @@ module _ (centroids : List (List Float)) (radius : Float) (planes : List (List F
       → Laid centroids radius planes volumes (set lent 0 0) near₀ coef₀ n at starts near coef → Filled centroids radius planes volumes lent near₀ coef₀ 0 starts near coef
   laid-all lent near₀ coef₀ n at starts near coef e l =
       let k = rw e at l in
-      record { numbers = sym (k .none); begins = λ _. k .begins ∙ overwrite-set (start centroids radius planes) (length centroids) lent 0; nears = λ _. k .nears; coefs = λ _. k .coefs }
+      record { numbers = sym (k .none); begins = λ _. k .begins ∙ overwrite-set (start centroids radius planes) (length centroids + 1) lent 0 0 (omega arith); nears = λ _. k .nears; coefs = λ _. k .coefs }

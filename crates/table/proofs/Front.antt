@@ -9,7 +9,8 @@ use lib.Seq.{getD-take, length-take-le}
 use lib.Ieee.{Float, nan, binary64, add}
 use Rattle.lists.specs.Lists.{foldTo, foldOver, sumOver, zero64}
 use Rattle.table.specs.Table.{rowEnd, product, rowSum, applied, addTo, rowShare, backed, Wf}
-use Rattle.table.proofs.Laws.{tabulate-same, rowEnd-within, wf-row, rises}
+use Rattle.lists.proofs.Laws.{tabulate-same}
+use Rattle.table.proofs.Laws.{rowEnd-within, wf-row, rises}
 
 -- two ways to change a state that agree at the indices passed
 foldTo-same : {A : Type 0} (f g : ℕ → A → A) (x : A) (n : ℕ) → ((k : ℕ) → k < n → (s : A) → f k s ≡ g k s) → foldTo f x n ≡ foldTo g x n

@@ -1,41 +1,21 @@
 -- The laws of `specs/Table.antt`. Assumes nothing.
-use mathlib.Core.Path.{_≡_, refl, ap, _∙_}
+use mathlib.Core.Path.{_≡_, refl, _∙_}
 use mathlib.Core.Bool.{Bool, true, false, _&&_}
-use mathlib.Core.List.{List, [], _∷_}
+use mathlib.Core.List.{List, []}
 use mathlib.Core.Logic.{⊎-elim}
-use Prim.Native.Nat.{ℕ, zero, suc, _+_, _-_, _≤_, _<_, zero-le, suc-le-suc}
+use Prim.Native.Nat.{ℕ, zero, suc, _+_, _-_, _≤_, _<_}
 use native.Mathlib.Omega.{arith}
-use native.Mathlib.Nat.{not-suc-le-zero, le-of-suc-le-suc, eq-or-lt-of-le}
+use native.Mathlib.Nat.{le-of-suc-le-suc, eq-or-lt-of-le}
 use native.Mathlib.Numerals.{add-one}
 use lib.ListN.{length, getD, length-set}
 use lib.Ieee.{Float}
 use lib.Dec.{ltb, leb}
 use borrow.Author.Tests.{ltb-true, ltb-false, leb-true, leb-false, lt-ltb, le-ltb, le-leb, lt-leb, not-true}
-use Rattle.lists.specs.Lists.{tabulate, overwrite, foldOver, zero64, anyTo, choose}
-use Rattle.lists.proofs.Laws.{length-tabulate, getD-tabulate, foldOver-none, foldTo-keeps, sumOver-none, any-not, both, choose-true}
+use Rattle.lists.specs.Lists.{tabulate, foldOver, zero64, anyTo, choose}
+use Rattle.lists.proofs.Laws.{length-tabulate, getD-tabulate, tabulate-same, foldOver-none, foldTo-keeps, sumOver-none, any-not, both, choose-true}
 use Rattle.table.specs.Table.{rowEnd, rowSum, applied, addTo, rowShare, backed, Within, Wf, wellOf}
 
 -- ---- lists
--- what is read within a list does not depend on what is read past its end
-pub getD-any : {A : Type 0} (l : List A) (k : ℕ) (d d′ : A) → k < length l → getD l k d ≡ getD l k d′
-getD-any [] k d d′ h = absurd (not-suc-le-zero h)
-getD-any (x ∷ l) zero d d′ h = refl
-getD-any (x ∷ l) (suc k) d d′ h = getD-any l k d d′ (le-of-suc-le-suc h)
-
--- a list overwritten whole
-pub overwrite-all : {A : Type 0} (f : ℕ → A) (l : List A) → overwrite f (length l) l ≡ tabulate f (length l)
-unfolding overwrite tabulate
-overwrite-all f [] = refl
-overwrite-all f (x ∷ l) = ap (λ (t : List _). f zero ∷ t) (overwrite-all (λ k. f (suc k)) l)
-
--- two functions that agree below n
-pub tabulate-same : {A : Type 0} (f g : ℕ → A) (n : ℕ) → ((k : ℕ) → k < n → f k ≡ g k) → tabulate f n ≡ tabulate g n
-unfolding tabulate
-tabulate-same f g zero h = refl
-tabulate-same f g (suc n) h =
-    let tail : tabulate (λ k. f (suc k)) n ≡ tabulate (λ k. g (suc k)) n = tabulate-same (λ k. f (suc k)) (λ k. g (suc k)) n (λ k b. h (suc k) (suc-le-suc b)) in
-    let head : f zero ≡ g zero = h zero (suc-le-suc zero-le) in
-    λ i. head i ∷ tail i
 
 -- what a turn keeps, the loop keeps
 pub foldOver-keeps : {A : Type 0} (P : A → Type 0) (f : ℕ → A → A) (x : A) → ((k : ℕ) (s : A) → P s → P (f k s)) → P x → (a b : ℕ) → P (foldOver f x a b)

@@ -8,9 +8,8 @@ use native.Mathlib.Nat.{le-antisymm}
 use lib.ListN.{length, getD, set, length-set}
 use denote.Ref.{now}
 use Rattle.lists.specs.Lists.{overwrite}
-use Rattle.lists.proofs.Laws.{overwrite-none, overwrite-more}
+use Rattle.lists.proofs.Laws.{overwrite-none, overwrite-more, overwrite-all}
 use Rattle.mesh.specs.Mesh.{point}
-use Rattle.nodes.proofs.Adds.{overwrite-all}
 use Rattle.depth.specs.Steps.{cellAbout}
 use Rattle.depth.proofs.cells_of.Statement.{statement}
 use Rattle.depth.proofs.cells_of.Tie as tie

@@ -8,9 +8,9 @@ use denote.Ref.{now}
 use lib.Ieee.{nan}
 use lib.ListN.{length, getD}
 use Rattle.lists.specs.Lists.{zero64, sumOver}
-use Rattle.lists.proofs.Laws.{sumOver-none, sumOver-more}
+use Rattle.lists.proofs.Laws.{sumOver-none, sumOver-more, getD-any}
 use Rattle.table.specs.Table.{product, rowSum}
-use Rattle.table.proofs.Laws.{getD-any, rowEnd-within}
+use Rattle.table.proofs.Laws.{rowEnd-within}
 use Rattle.pair.proofs.row.Statement.{statement}
 use Rattle.pair.proofs.row.Tie as tie
 

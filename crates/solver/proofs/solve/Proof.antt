@@ -1,21 +1,14 @@
 -- `solve` meets its contract. Assumes nothing.
 use borrow.Author.Needs.{needs}
 use mathlib.Core.Path.{_≡_, refl, sym, ap, _∙_}
-use mathlib.Core.List.{List, _++_, append-nil}
 use Prim.Native.Nat.{ℕ, _-_, _≤_}
 use native.Mathlib.Omega.{arith}
-use native.Mathlib.Nat.{le-refl}
 use lib.ListN.{length}
-use lib.Seq.{drop-length}
-use Rattle.lists.specs.Lists.{tabulate, overwrite}
-use Rattle.lists.proofs.Laws.{overwrite-none, overwrite-more, overwrite-is}
+use Rattle.lists.specs.Lists.{overwrite}
+use Rattle.lists.proofs.Laws.{overwrite-none, overwrite-more, overwrite-all}
 use Rattle.solver.specs.Energies.{energyAt, energiesOf}
 use Rattle.solver.proofs.solve.Statement.{statement}
 use Rattle.solver.proofs.solve.Tie as tie
-
--- every place overwritten
-overwrite-all : {A : Type 0} (f : ℕ → A) (l : List A) → overwrite f (length l) l ≡ tabulate f (length l)
-overwrite-all f l = overwrite-is f (length l) l (le-refl (length l)) ∙ ap (λ (t : List _). tabulate f (length l) ++ t) (drop-length l) ∙ append-nil _
 
 abbrev Inv-loop : tie.InvT-loop
 Inv-loop weights density energies₀ e₀ energies e = (e ≤ length energies₀) × (length energies ≡ length energies₀) × (energies ≡ overwrite (energyAt weights density) e energies₀)
@@ -61,7 +54,7 @@ returns c =
     let density = c .before .before .before .before .before .args .density .now in
     let energies = c .before .before .before .before .before .args .energies .now in
     let e : c .before .loop .e ≡ length energies = search needs in
-    c .before .loop .inv .2 ∙ ap (λ (k : ℕ). overwrite (energyAt weights density) k energies) e ∙ overwrite-all (energyAt weights density) energies
+    c .before .loop .inv .2 ∙ ap (λ (k : ℕ). overwrite (energyAt weights density) k energies) e ∙ overwrite-all (energyAt weights density) _ energies refl
 
 pub solve-spec : {M : Type 1} → statement M
 solve-spec =

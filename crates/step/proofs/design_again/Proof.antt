@@ -8,12 +8,12 @@ use borrow.Author.Count.{below-more}
 use lib.ListN.{length, getD}
 use lib.Ieee.{nan, eq, ne, binary64, fits}
 use Rattle.lists.specs.Lists.{overwrite, zero64}
-use Rattle.lists.proofs.Laws.{overwrite-none, both}
+use Rattle.lists.proofs.Laws.{overwrite-none, both, tabulate-same}
 use Rattle.ieee.proofs.Basic.{holds}
 use Rattle.oc.proofs.Filled.{unwritten, stored, filled}
 use Rattle.step.specs.Design.{nextOf, designAt}
 use Rattle.step.proofs.Copied.{tabulate-getD}
-use Rattle.lanes.proofs.Same.{eq-same, tabulate-same}
+use Rattle.lanes.proofs.Same.{eq-same}
 use Rattle.step.proofs.design_again.Statement.{statement}
 use Rattle.step.proofs.design_again.Tie as tie
 

@@ -7,9 +7,8 @@ use native.Mathlib.Omega.{arith}
 use denote.Ref.{now}
 use lib.ListN.{length, getD}
 use Rattle.lists.specs.Lists.{overwrite}
-use Rattle.lists.proofs.Laws.{overwrite-none, overwrite-more}
+use Rattle.lists.proofs.Laws.{overwrite-none, overwrite-more, overwrite-all}
 use Rattle.table.specs.Table.{rowSum, applied}
-use Rattle.table.proofs.Laws.{overwrite-all}
 use Rattle.table.proofs.apply.Statement.{statement}
 use Rattle.table.proofs.apply.Tie as tie
 
@@ -56,7 +55,7 @@ returns : tie.Need-returns Inv-loop μ-loop
 unfolding applied
 returns c =
     let a = c .before .before .before .before .before .before .before .args in
-    let whole = overwrite-all (λ e. rowSum (now (a .near)) (now (a .coef)) (now (a .x)) (getD (now (a .starts)) e 0) (getD (now (a .starts)) (e + 1) 0)) (now (a .out)) in
+    let whole = overwrite-all (λ e. rowSum (now (a .near)) (now (a .coef)) (now (a .x)) (getD (now (a .starts)) e 0) (getD (now (a .starts)) (e + 1) 0)) _ (now (a .out)) refl in
     cc (c .before .loop .inv .2, le-antisymm (c .before .loop .inv .0) (omega arith), whole)
 
 pub apply-spec : {M : Type 1} → statement M

@@ -6,7 +6,7 @@ use denote.Ref.{now}
 use lib.Ieee.{nan}
 use lib.ListN.{List·getD-eq-default}
 use Rattle.lists.specs.Lists.{zero64}
-use Rattle.table.proofs.Laws.{getD-any}
+use Rattle.lists.proofs.Laws.{getD-any}
 use Rattle.table.proofs.at.Statement.{statement}
 use Rattle.table.proofs.at.Tie as tie
 

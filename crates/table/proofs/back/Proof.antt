@@ -8,9 +8,8 @@ use denote.Ref.{now}
 use lib.ListN.{length, getD}
 use lib.Ieee.{nan}
 use Rattle.lists.specs.Lists.{foldTo, zero64}
-use Rattle.lists.proofs.Laws.{foldTo-none, foldTo-more}
+use Rattle.lists.proofs.Laws.{foldTo-none, foldTo-more, getD-any}
 use Rattle.table.specs.Table.{rowShare, backed}
-use Rattle.table.proofs.Laws.{getD-any}
 use Rattle.table.proofs.back.Statement.{statement}
 use Rattle.table.proofs.back.Tie as tie
 

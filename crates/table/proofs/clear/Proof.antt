@@ -6,8 +6,7 @@ use native.Mathlib.Nat.{le-antisymm}
 use native.Mathlib.Omega.{arith}
 use lib.ListN.{length}
 use Rattle.lists.specs.Lists.{overwrite, zero64}
-use Rattle.lists.proofs.Laws.{overwrite-none, overwrite-more}
-use Rattle.table.proofs.Laws.{overwrite-all}
+use Rattle.lists.proofs.Laws.{overwrite-none, overwrite-more, overwrite-all}
 use Rattle.table.proofs.clear.Statement.{statement}
 use Rattle.table.proofs.clear.Tie as tie
 
@@ -39,7 +38,7 @@ same-length : tie.Need-same-length Inv-loop μ-loop
 same-length c = search needs
 
 returns : tie.Need-returns Inv-loop μ-loop
-returns c = cc (le-antisymm (c .before .loop .inv .0) (omega arith), overwrite-all (λ k. zero64) _)
+returns c = cc (le-antisymm (c .before .loop .inv .0) (omega arith), overwrite-all (λ k. zero64) _ _ refl)
 
 pub clear-spec : {M : Type 1} → statement M
 clear-spec =

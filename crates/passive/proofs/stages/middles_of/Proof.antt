@@ -7,9 +7,8 @@ use native.Mathlib.Nat.{le-antisymm}
 use lib.ListN.{length, getD, set, length-set}
 use denote.Ref.{now}
 use Rattle.lists.specs.Lists.{overwrite}
-use Rattle.lists.proofs.Laws.{overwrite-none, overwrite-more}
+use Rattle.lists.proofs.Laws.{overwrite-none, overwrite-more, overwrite-all}
 use Rattle.mesh.specs.Mesh.{stored, centroidOf}
-use Rattle.nodes.proofs.Adds.{overwrite-all}
 use Rattle.passive.proofs.stages.middles_of.Statement.{statement}
 use Rattle.passive.proofs.stages.middles_of.Tie as tie
 
