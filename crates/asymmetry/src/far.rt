@@ -20,7 +20,7 @@ fn near(faces: &[[f64; 9]], order: &[u32], boxes: &[[f64; 6]], p: Vec3, enough: 
         best: 1.0 / 0.0,
         stopped: false,
     };
-    let s = nearest::seek(faces, order, boxes, p, enough, g, none);
+    let s = nearest::seek(faces, order, boxes, p.x, p.y, p.z, enough, g, none);
     s.best
 }
 

@@ -3,6 +3,7 @@ ghost use mathlib.Core.Path.{_≡_};
 ghost use Prim.Native.Nat.{_<_, _/_};
 ghost use mathlib.Core.List.{[]};
 ghost use lib.ListN.{length, getD};
+ghost use Rattle.geom.specs.Vectors.{vec};
 ghost use Rattle.tree.specs.Steps.{boundsAt, treeIn};
 ghost use Rattle.nearest.specs.Nearest as Nearest;
 ghost use Rattle.nearest.specs.Steps.{Searchable};
@@ -40,25 +41,27 @@ fn least(faces: &[[f64; 9]], o: &[u32], p: Vec3, best: f64) -> f64
     b
 }
 
-// Searches the tree in o and b, whose own box is g away.
+// Searches the tree in o and b, whose own box is g away. The point comes as three numbers, which stay in registers from call to call.
 pub fn seek(
     faces: &[[f64; 9]],
     o: &[u32],
     b: &[[f64; 6]],
-    p: Vec3,
+    x: f64,
+    y: f64,
+    z: f64,
     enough: f64,
     g: f64,
     s: Found,
 ) -> Found
-    requires { ⌜ Searchable (now o) (now b) p g ⌝ }
-    ensures { λ r. ⌜ r ≡ Nearest.searchIn (now (faces .entry)) p enough (treeIn (now (o .entry)) (now (b .entry))) s ⌝ }
+    requires { ⌜ Searchable (now o) (now b) (vec x y z) g ⌝ }
+    ensures { λ r. ⌜ r ≡ Nearest.searchIn (now (faces .entry)) (vec x y z) enough (treeIn (now (o .entry)) (now (b .entry))) s ⌝ }
 {
     if s.stopped | (g >= s.best) {
         return s;
     }
     let n = o.len();
     if n <= 4 {
-        let best = least(faces, o, p, s.best);
+        let best = least(faces, o, Vec3 { x, y, z }, s.best);
         return Found {
             best,
             stopped: best <= enough,
@@ -66,18 +69,18 @@ pub fn seek(
     }
     let h = n / 2;
     let k = (n - h) / 2;
-    let low = gap(b[h / 2], p);
-    let high = gap(b[h + k], p);
+    let low = gap(b[h / 2], Vec3 { x, y, z });
+    let high = gap(b[h + k], Vec3 { x, y, z });
     if low <= high {
-        let first = seek(faces, &o[..h], &b[..h], p, enough, low, s);
+        let first = seek(faces, &o[..h], &b[..h], x, y, z, enough, low, s);
         if first.stopped | (high >= first.best) {
             return first;
         }
-        return seek(faces, &o[h..n], &b[h..n], p, enough, high, first);
+        return seek(faces, &o[h..n], &b[h..n], x, y, z, enough, high, first);
     }
-    let first = seek(faces, &o[h..n], &b[h..n], p, enough, high, s);
+    let first = seek(faces, &o[h..n], &b[h..n], x, y, z, enough, high, s);
     if first.stopped | (low >= first.best) {
         return first;
     }
-    seek(faces, &o[..h], &b[..h], p, enough, low, first)
+    seek(faces, &o[..h], &b[..h], x, y, z, enough, low, first)
 }

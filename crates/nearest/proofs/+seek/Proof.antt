@@ -7,6 +7,7 @@ use native.Mathlib.Omega.{arith}
 use lib.Ieee.{Float, le}
 use lib.ListN.{length, getD, take, drop, length-drop}
 use lib.Seq.{length-take-le}
+use Rattle.geom.specs.Vectors.{vec}
 use Rattle.tree.specs.Steps.{boundsAt, treeIn}
 use Rattle.nearest.specs.Nearest.{gapOf, atLeaf, searchIn}
 use Rattle.nearest.proofs.Searches.{to-end, read-low, read-high, passes, at-leaf, low-first, high-first}
@@ -38,7 +39,7 @@ seek-returns : (t : ℕ) → seek-lts.Need-returns (
   seek.Post,
 ) (seek-at t) seek.Post
 seek-returns t c = let a = c .before .before .before .before .args in
-    passes (a .o .now) (a .b .now) (a .faces .now) (a .p) (a .enough) (a .s) (sym (λ i. a .s .stopped || le (a .s .best) (c .before .before .before .before .pre .1 .away i)) ∙ c .if1 .taken)
+    passes (a .o .now) (a .b .now) (a .faces .now) (vec (a .x) (a .y) (a .z)) (a .enough) (a .s) (sym (λ i. a .s .stopped || le (a .s .best) (c .before .before .before .before .pre .1 .away i)) ∙ c .if1 .taken)
 
 seek-least-requires : (t : ℕ) → seek-lts.Need-least-requires (
   least-reads.Asked,
@@ -60,8 +61,8 @@ seek-returns-2 : (t : ℕ) → seek-lts.Need-returns-2 (
 ) (seek-at t) seek.Post
 seek-returns-2 t c = let a = c .before .before .before .before .before .before .args in
     let test = sym (λ i. a .s .stopped || le (a .s .best) (c .before .before .before .before .before .before .pre .1 .away i)) ∙ c .before .before .if1 .left in
-    (λ i. atLeaf (a .faces .now) (a .p) (a .enough) (c .least .ensures i))
-    ∙ at-leaf (a .o .now) (a .b .now) (a .faces .now) (a .p) (a .enough) (a .s) test (c .before .if2 .taken)
+    (λ i. atLeaf (a .faces .now) (vec (a .x) (a .y) (a .z)) (a .enough) (c .least .ensures i))
+    ∙ at-leaf (a .o .now) (a .b .now) (a .faces .now) (vec (a .x) (a .y) (a .z)) (a .enough) (a .s) test (c .before .if2 .taken)
 
 seek-sub-k : (t : ℕ) → seek-lts.Need-sub-k (
   least-reads.Asked,
@@ -183,7 +184,7 @@ seek-seek-requires t c κs = let a = c .before .before .before .before .before .
       record {
         some = omega (arith, e, more);
         places = e₂ ∙ sym e;
-        away = c .before .before .before .before .before .gap .ensures ∙ ap (λ (v : List Float). gapOf (boundsAt v) (a .p)) (sym (read-low o b more));
+        away = c .before .before .before .before .before .gap .ensures ∙ ap (λ (v : List Float). gapOf (boundsAt v) (vec (a .x) (a .y) (a .z))) (sym (read-low o b more));
       },
     )
 
@@ -203,10 +204,10 @@ seek-returns-3 t c = let a = c .before .before .before .before .before .before .
     let more : 4 < n = omega (arith, c .before .before .before .before .before .before .before .before .before .before .before .if2) in
     let test = sym (λ i. a .s .stopped || le (a .s .best) (c .before .before .before .before .before .before .before .before .before .before .before .before .before .before .before .before .pre .1 .away i)) ∙ c .before .before .before .before .before .before .before .before .before .before .before .before .if1 .left in
     let first = c .before .before .before .seek .result in
-    let far = c .before .before .before .before .before .before .before .gap2 .ensures ∙ ap (λ (v : List Float). gapOf (boundsAt v) (a .p)) (sym (read-high o b)) in
-    passes (drop h o) (drop h b) (a .faces .now) (a .p) (a .enough) first (sym (λ i. first .stopped || le (first .best) (far i)) ∙ c .if4 .taken)
-    ∙ (λ i. searchIn (a .faces .now) (a .p) (a .enough) (treeIn (drop h o) (drop h b)) (c .before .before .before .seek .ensures i))
-    ∙ low-first o b (a .faces .now) (a .p) (a .enough) (a .s) test more (sym (λ i. le (c .before .before .before .before .before .before .before .before .before .gap .ensures i) (c .before .before .before .before .before .before .before .gap2 .ensures i)) ∙ c .before .before .before .before .before .before .if3 .taken)
+    let far = c .before .before .before .before .before .before .before .gap2 .ensures ∙ ap (λ (v : List Float). gapOf (boundsAt v) (vec (a .x) (a .y) (a .z))) (sym (read-high o b)) in
+    passes (drop h o) (drop h b) (a .faces .now) (vec (a .x) (a .y) (a .z)) (a .enough) first (sym (λ i. first .stopped || le (first .best) (far i)) ∙ c .if4 .taken)
+    ∙ (λ i. searchIn (a .faces .now) (vec (a .x) (a .y) (a .z)) (a .enough) (treeIn (drop h o) (drop h b)) (c .before .before .before .seek .ensures i))
+    ∙ low-first o b (a .faces .now) (vec (a .x) (a .y) (a .z)) (a .enough) (a .s) test more (sym (λ i. le (c .before .before .before .before .before .before .before .before .before .gap .ensures i) (c .before .before .before .before .before .before .before .gap2 .ensures i)) ∙ c .before .before .before .before .before .before .if3 .taken)
 
 seek-mul-seek : (t : ℕ) → seek-lts.Need-mul-seek (
   least-reads.Asked,
@@ -310,7 +311,7 @@ seek-seek-requires-2 t c κs = let a = c .before .before .before .before .before
       record {
         some = omega (arith, e, more);
         places = omega (arith, e, e₂, c .before .before .before .before .before .before .before .before .before .before .before .before .before .before .before .before .before .before .pre .1 .places);
-        away = c .before .before .before .before .before .before .before .before .before .gap2 .ensures ∙ ap (λ (v : List Float). gapOf (boundsAt v) (a .p)) (sym (read-high o b)) ∙ sym (λ i. gapOf (boundsAt (getD (eb i) (length (eo i) / 2) [])) (a .p));
+        away = c .before .before .before .before .before .before .before .before .before .gap2 .ensures ∙ ap (λ (v : List Float). gapOf (boundsAt v) (vec (a .x) (a .y) (a .z))) (sym (read-high o b)) ∙ sym (λ i. gapOf (boundsAt (getD (eb i) (length (eo i) / 2) [])) (vec (a .x) (a .y) (a .z)));
       },
     )
 
@@ -332,8 +333,8 @@ seek-returns-4 t c = let a = c .before .before .before .before .before .before .
     let eo = to-end n h o (omega arith) in
     let eb = to-end n h b (omega (arith, c .before .before .before .before .before .before .before .before .before .before .before .before .before .before .before .before .before .before .before .pre .1 .places)) in
     c .seek2 .ensures
-    ∙ (λ i. searchIn (a .faces .now) (a .p) (a .enough) (treeIn (eo i) (eb i)) (c .before .before .before .before .before .before .seek .ensures i))
-    ∙ low-first o b (a .faces .now) (a .p) (a .enough) (a .s) test more (sym (λ i. le (c .before .before .before .before .before .before .before .before .before .before .before .before .gap .ensures i) (c .before .before .before .before .before .before .before .before .before .before .gap2 .ensures i)) ∙ c .before .before .before .before .before .before .before .before .before .if3 .taken)
+    ∙ (λ i. searchIn (a .faces .now) (vec (a .x) (a .y) (a .z)) (a .enough) (treeIn (eo i) (eb i)) (c .before .before .before .before .before .before .seek .ensures i))
+    ∙ low-first o b (a .faces .now) (vec (a .x) (a .y) (a .z)) (a .enough) (a .s) test more (sym (λ i. le (c .before .before .before .before .before .before .before .before .before .before .before .before .gap .ensures i) (c .before .before .before .before .before .before .before .before .before .before .gap2 .ensures i)) ∙ c .before .before .before .before .before .before .before .before .before .if3 .taken)
 
 seek-mul-seek-3 : (t : ℕ) → seek-lts.Need-mul-seek-3 (
   least-reads.Asked,
@@ -437,7 +438,7 @@ seek-seek-requires-3 t c κs = let a = c .before .before .before .before .before
       record {
         some = omega (arith, e, more);
         places = omega (arith, e, e₂, c .before .before .before .before .before .before .before .before .before .before .before .before .pre .1 .places);
-        away = c .before .before .before .gap2 .ensures ∙ ap (λ (v : List Float). gapOf (boundsAt v) (a .p)) (sym (read-high o b)) ∙ sym (λ i. gapOf (boundsAt (getD (eb i) (length (eo i) / 2) [])) (a .p));
+        away = c .before .before .before .gap2 .ensures ∙ ap (λ (v : List Float). gapOf (boundsAt v) (vec (a .x) (a .y) (a .z))) (sym (read-high o b)) ∙ sym (λ i. gapOf (boundsAt (getD (eb i) (length (eo i) / 2) [])) (vec (a .x) (a .y) (a .z)));
       },
     )
 
@@ -459,10 +460,10 @@ seek-returns-5 t c = let a = c .before .before .before .before .before .before .
     let eo = to-end n h o (omega arith) in
     let eb = to-end n h b (omega (arith, c .before .before .before .before .before .before .before .before .before .before .before .before .before .before .before .before .pre .1 .places)) in
     let first = c .before .before .before .seek3 .result in
-    let far = c .before .before .before .before .before .before .before .before .before .gap .ensures ∙ ap (λ (v : List Float). gapOf (boundsAt v) (a .p)) (sym (read-low o b more)) in
-    passes (take h o) (take h b) (a .faces .now) (a .p) (a .enough) first (sym (λ i. first .stopped || le (first .best) (far i)) ∙ c .if5 .taken)
-    ∙ (λ i. searchIn (a .faces .now) (a .p) (a .enough) (treeIn (take h o) (take h b)) ((c .before .before .before .seek3 .ensures ∙ (λ j. searchIn (a .faces .now) (a .p) (a .enough) (treeIn (eo j) (eb j)) (a .s))) i))
-    ∙ high-first o b (a .faces .now) (a .p) (a .enough) (a .s) test more (sym (λ i. le (c .before .before .before .before .before .before .before .before .before .gap .ensures i) (c .before .before .before .before .before .before .before .gap2 .ensures i)) ∙ c .before .before .before .before .before .before .if3 .left)
+    let far = c .before .before .before .before .before .before .before .before .before .gap .ensures ∙ ap (λ (v : List Float). gapOf (boundsAt v) (vec (a .x) (a .y) (a .z))) (sym (read-low o b more)) in
+    passes (take h o) (take h b) (a .faces .now) (vec (a .x) (a .y) (a .z)) (a .enough) first (sym (λ i. first .stopped || le (first .best) (far i)) ∙ c .if5 .taken)
+    ∙ (λ i. searchIn (a .faces .now) (vec (a .x) (a .y) (a .z)) (a .enough) (treeIn (take h o) (take h b)) ((c .before .before .before .seek3 .ensures ∙ (λ j. searchIn (a .faces .now) (vec (a .x) (a .y) (a .z)) (a .enough) (treeIn (eo j) (eb j)) (a .s))) i))
+    ∙ high-first o b (a .faces .now) (vec (a .x) (a .y) (a .z)) (a .enough) (a .s) test more (sym (λ i. le (c .before .before .before .before .before .before .before .before .before .gap .ensures i) (c .before .before .before .before .before .before .before .gap2 .ensures i)) ∙ c .before .before .before .before .before .before .if3 .left)
 
 seek-slice-aggregate-seek-3 : (t : ℕ) → seek-lts.Need-slice-aggregate-seek-3 (
   least-reads.Asked,
@@ -504,7 +505,7 @@ seek-seek-requires-4 t c κs = let a = c .before .before .before .before .before
       record {
         some = omega (arith, e, more);
         places = e₂ ∙ sym e;
-        away = c .before .before .before .before .before .before .before .before .before .before .before .gap .ensures ∙ ap (λ (v : List Float). gapOf (boundsAt v) (a .p)) (sym (read-low o b more));
+        away = c .before .before .before .before .before .before .before .before .before .before .before .gap .ensures ∙ ap (λ (v : List Float). gapOf (boundsAt v) (vec (a .x) (a .y) (a .z))) (sym (read-low o b more));
       },
     )
 
@@ -526,8 +527,8 @@ seek-returns-6 t c = let a = c .before .before .before .before .before .before .
     let eo = to-end n h o (omega arith) in
     let eb = to-end n h b (omega (arith, c .before .before .before .before .before .before .before .before .before .before .before .before .before .before .before .before .before .before .before .pre .1 .places)) in
     c .seek4 .ensures
-    ∙ (λ i. searchIn (a .faces .now) (a .p) (a .enough) (treeIn (take h o) (take h b)) ((c .before .before .before .before .before .before .seek3 .ensures ∙ (λ j. searchIn (a .faces .now) (a .p) (a .enough) (treeIn (eo j) (eb j)) (a .s))) i))
-    ∙ high-first o b (a .faces .now) (a .p) (a .enough) (a .s) test more (sym (λ i. le (c .before .before .before .before .before .before .before .before .before .before .before .before .gap .ensures i) (c .before .before .before .before .before .before .before .before .before .before .gap2 .ensures i)) ∙ c .before .before .before .before .before .before .before .before .before .if3 .left)
+    ∙ (λ i. searchIn (a .faces .now) (vec (a .x) (a .y) (a .z)) (a .enough) (treeIn (take h o) (take h b)) ((c .before .before .before .before .before .before .seek3 .ensures ∙ (λ j. searchIn (a .faces .now) (vec (a .x) (a .y) (a .z)) (a .enough) (treeIn (eo j) (eb j)) (a .s))) i))
+    ∙ high-first o b (a .faces .now) (vec (a .x) (a .y) (a .z)) (a .enough) (a .s) test more (sym (λ i. le (c .before .before .before .before .before .before .before .before .before .before .before .before .gap .ensures i) (c .before .before .before .before .before .before .before .before .before .before .gap2 .ensures i)) ∙ c .before .before .before .before .before .before .before .before .before .if3 .left)
 
 pub +seek-spec : {M : Type 1} → statement M
 +seek-spec = close μ-seek λ t. seek-lts.spec (
