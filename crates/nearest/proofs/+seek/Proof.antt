@@ -30,148 +30,54 @@ seek-at t = and 3 seek-kinds.ps (is 3 seek-kinds.ps μ-seek t) seek.Pre
 abbrev seek-below : ℕ → In 3 seek-kinds.ps
 seek-below t = and 3 seek-kinds.ps (falls 3 seek-kinds.ps _<_ μ-seek t) seek.Pre
 
-seek-returns : (t : ℕ) → seek-lts.Need-returns (
-  least-reads.Asked,
-  least-reads.Learnt,
-  gap-reads.Asked,
-  gap-reads.Learnt,
-  seek-below t,
-  seek.Post,
-) (seek-at t) seek.Post
+-- what the calls ask and promise: that of `seek` itself is for shorter parts
+abbrev claims : ℕ → seek-lts.Claims
+claims t = (least-reads.Asked, least-reads.Learnt, gap-reads.Asked, gap-reads.Learnt, seek-below t, seek.Post)
+
+seek-returns : (t : ℕ) → seek-lts.Need-returns (claims t) (seek-at t) seek.Post
 seek-returns t c = let a = c .before .before .before .before .args in
     passes (a .o .now) (a .b .now) (a .faces .now) (vec (a .x) (a .y) (a .z)) (a .enough) (a .s) (sym (λ i. a .s .stopped || le (a .s .best) (c .before .before .before .before .pre .1 .away i)) ∙ c .if1 .taken)
 
-seek-least-requires : (t : ℕ) → seek-lts.Need-least-requires (
-  least-reads.Asked,
-  least-reads.Learnt,
-  gap-reads.Asked,
-  gap-reads.Learnt,
-  seek-below t,
-  seek.Post,
-) (seek-at t) seek.Post
+seek-least-requires : (t : ℕ) → seek-lts.Need-least-requires (claims t) (seek-at t) seek.Post
 seek-least-requires t c κs = tt
 
-seek-returns-2 : (t : ℕ) → seek-lts.Need-returns-2 (
-  least-reads.Asked,
-  least-reads.Learnt,
-  gap-reads.Asked,
-  gap-reads.Learnt,
-  seek-below t,
-  seek.Post,
-) (seek-at t) seek.Post
+seek-returns-2 : (t : ℕ) → seek-lts.Need-returns-2 (claims t) (seek-at t) seek.Post
 seek-returns-2 t c = let a = c .before .before .before .before .before .before .args in
     let test = sym (λ i. a .s .stopped || le (a .s .best) (c .before .before .before .before .before .before .pre .1 .away i)) ∙ c .before .before .if1 .left in
     (λ i. atLeaf (a .faces .now) (vec (a .x) (a .y) (a .z)) (a .enough) (c .least .ensures i))
     ∙ at-leaf (a .o .now) (a .b .now) (a .faces .now) (vec (a .x) (a .y) (a .z)) (a .enough) (a .s) test (c .before .if2 .taken)
 
-seek-sub-k : (t : ℕ) → seek-lts.Need-sub-k (
-  least-reads.Asked,
-  least-reads.Learnt,
-  gap-reads.Asked,
-  gap-reads.Learnt,
-  seek-below t,
-  seek.Post,
-) (seek-at t) seek.Post
+seek-sub-k : (t : ℕ) → seek-lts.Need-sub-k (claims t) (seek-at t) seek.Post
 seek-sub-k t c = omega arith
 
-seek-mul-gap : (t : ℕ) → seek-lts.Need-mul-gap (
-  least-reads.Asked,
-  least-reads.Learnt,
-  gap-reads.Asked,
-  gap-reads.Learnt,
-  seek-below t,
-  seek.Post,
-) (seek-at t) seek.Post
+seek-mul-gap : (t : ℕ) → seek-lts.Need-mul-gap (claims t) (seek-at t) seek.Post
 seek-mul-gap t c = omega arith
 
-seek-shared-slice-copy-out-gap : (t : ℕ) → seek-lts.Need-shared-slice-copy-out-gap (
-  least-reads.Asked,
-  least-reads.Learnt,
-  gap-reads.Asked,
-  gap-reads.Learnt,
-  seek-below t,
-  seek.Post,
-) (seek-at t) seek.Post
+seek-shared-slice-copy-out-gap : (t : ℕ) → seek-lts.Need-shared-slice-copy-out-gap (claims t) (seek-at t) seek.Post
 seek-shared-slice-copy-out-gap t c = omega (arith, c .before .before .before .before .before .pre .1 .places, c .if2)
 
-seek-gap-requires : (t : ℕ) → seek-lts.Need-gap-requires (
-  least-reads.Asked,
-  least-reads.Learnt,
-  gap-reads.Asked,
-  gap-reads.Learnt,
-  seek-below t,
-  seek.Post,
-) (seek-at t) seek.Post
+seek-gap-requires : (t : ℕ) → seek-lts.Need-gap-requires (claims t) (seek-at t) seek.Post
 seek-gap-requires t c κs = tt
 
-seek-add-gap : (t : ℕ) → seek-lts.Need-add-gap (
-  least-reads.Asked,
-  least-reads.Learnt,
-  gap-reads.Asked,
-  gap-reads.Learnt,
-  seek-below t,
-  seek.Post,
-) (seek-at t) seek.Post
+seek-add-gap : (t : ℕ) → seek-lts.Need-add-gap (claims t) (seek-at t) seek.Post
 seek-add-gap t c = omega (arith, c .before .before .before .before .before .before .before)
 
-seek-mul-gap-2 : (t : ℕ) → seek-lts.Need-mul-gap-2 (
-  least-reads.Asked,
-  least-reads.Learnt,
-  gap-reads.Asked,
-  gap-reads.Learnt,
-  seek-below t,
-  seek.Post,
-) (seek-at t) seek.Post
+seek-mul-gap-2 : (t : ℕ) → seek-lts.Need-mul-gap-2 (claims t) (seek-at t) seek.Post
 seek-mul-gap-2 t c = omega (arith, c .before .before .before .before .before .before .before)
 
-seek-shared-slice-copy-out-gap-2 : (t : ℕ) → seek-lts.Need-shared-slice-copy-out-gap-2 (
-  least-reads.Asked,
-  least-reads.Learnt,
-  gap-reads.Asked,
-  gap-reads.Learnt,
-  seek-below t,
-  seek.Post,
-) (seek-at t) seek.Post
+seek-shared-slice-copy-out-gap-2 : (t : ℕ) → seek-lts.Need-shared-slice-copy-out-gap-2 (claims t) (seek-at t) seek.Post
 seek-shared-slice-copy-out-gap-2 t c = omega (arith, c .before .before .before .before .before .before .before .pre .1 .places, c .before .before .if2)
 
-seek-gap-requires-2 : (t : ℕ) → seek-lts.Need-gap-requires-2 (
-  least-reads.Asked,
-  least-reads.Learnt,
-  gap-reads.Asked,
-  gap-reads.Learnt,
-  seek-below t,
-  seek.Post,
-) (seek-at t) seek.Post
+seek-gap-requires-2 : (t : ℕ) → seek-lts.Need-gap-requires-2 (claims t) (seek-at t) seek.Post
 seek-gap-requires-2 t c κs = tt
 
-seek-slice-aggregate-seek : (t : ℕ) → seek-lts.Need-slice-aggregate-seek (
-  least-reads.Asked,
-  least-reads.Learnt,
-  gap-reads.Asked,
-  gap-reads.Learnt,
-  seek-below t,
-  seek.Post,
-) (seek-at t) seek.Post
+seek-slice-aggregate-seek : (t : ℕ) → seek-lts.Need-slice-aggregate-seek (claims t) (seek-at t) seek.Post
 seek-slice-aggregate-seek t c = sym (length-take-le _ _ (omega arith))
 
-seek-slice-aggregate-seek-2 : (t : ℕ) → seek-lts.Need-slice-aggregate-seek-2 (
-  least-reads.Asked,
-  least-reads.Learnt,
-  gap-reads.Asked,
-  gap-reads.Learnt,
-  seek-below t,
-  seek.Post,
-) (seek-at t) seek.Post
+seek-slice-aggregate-seek-2 : (t : ℕ) → seek-lts.Need-slice-aggregate-seek-2 (claims t) (seek-at t) seek.Post
 seek-slice-aggregate-seek-2 t c = sym (length-take-le _ _ (omega (arith, c .before .before .before .before .before .before .before .before .before .before .before .before .pre .1 .places)))
 
-seek-seek-requires : (t : ℕ) → seek-lts.Need-seek-requires (
-  least-reads.Asked,
-  least-reads.Learnt,
-  gap-reads.Asked,
-  gap-reads.Learnt,
-  seek-below t,
-  seek.Post,
-) (seek-at t) seek.Post
+seek-seek-requires : (t : ℕ) → seek-lts.Need-seek-requires (claims t) (seek-at t) seek.Post
 seek-seek-requires t c κs = let a = c .before .before .before .before .before .before .before .before .before .before .before .before .args in
     let o = a .o .now in
     let b = a .b .now in
@@ -188,14 +94,7 @@ seek-seek-requires t c κs = let a = c .before .before .before .before .before .
       },
     )
 
-seek-returns-3 : (t : ℕ) → seek-lts.Need-returns-3 (
-  least-reads.Asked,
-  least-reads.Learnt,
-  gap-reads.Asked,
-  gap-reads.Learnt,
-  seek-below t,
-  seek.Post,
-) (seek-at t) seek.Post
+seek-returns-3 : (t : ℕ) → seek-lts.Need-returns-3 (claims t) (seek-at t) seek.Post
 seek-returns-3 t c = let a = c .before .before .before .before .before .before .before .before .before .before .before .before .before .before .before .before .args in
     let o = a .o .now in
     let b = a .b .now in
@@ -209,94 +108,31 @@ seek-returns-3 t c = let a = c .before .before .before .before .before .before .
     ∙ (λ i. searchIn (a .faces .now) (vec (a .x) (a .y) (a .z)) (a .enough) (treeIn (drop h o) (drop h b)) (c .before .before .before .seek .ensures i))
     ∙ low-first o b (a .faces .now) (vec (a .x) (a .y) (a .z)) (a .enough) (a .s) test more (sym (λ i. le (c .before .before .before .before .before .before .before .before .before .gap .ensures i) (c .before .before .before .before .before .before .before .gap2 .ensures i)) ∙ c .before .before .before .before .before .before .if3 .taken)
 
-seek-mul-seek : (t : ℕ) → seek-lts.Need-mul-seek (
-  least-reads.Asked,
-  least-reads.Learnt,
-  gap-reads.Asked,
-  gap-reads.Learnt,
-  seek-below t,
-  seek.Post,
-) (seek-at t) seek.Post
+seek-mul-seek : (t : ℕ) → seek-lts.Need-mul-seek (claims t) (seek-at t) seek.Post
 seek-mul-seek t c = omega (arith, c .before .before .before .before .before .before .before .before .before .before .before .before .before .before .before .before)
 
-seek-sub-seek : (t : ℕ) → seek-lts.Need-sub-seek (
-  least-reads.Asked,
-  least-reads.Learnt,
-  gap-reads.Asked,
-  gap-reads.Learnt,
-  seek-below t,
-  seek.Post,
-) (seek-at t) seek.Post
+seek-sub-seek : (t : ℕ) → seek-lts.Need-sub-seek (claims t) (seek-at t) seek.Post
 seek-sub-seek t c = omega arith
 
-seek-part-seek-start : (t : ℕ) → seek-lts.Need-part-seek-start (
-  least-reads.Asked,
-  least-reads.Learnt,
-  gap-reads.Asked,
-  gap-reads.Learnt,
-  seek-below t,
-  seek.Post,
-) (seek-at t) seek.Post
+seek-part-seek-start : (t : ℕ) → seek-lts.Need-part-seek-start (claims t) (seek-at t) seek.Post
 seek-part-seek-start t c = omega arith
 
-seek-part-seek-end : (t : ℕ) → seek-lts.Need-part-seek-end (
-  least-reads.Asked,
-  least-reads.Learnt,
-  gap-reads.Asked,
-  gap-reads.Learnt,
-  seek-below t,
-  seek.Post,
-) (seek-at t) seek.Post
+seek-part-seek-end : (t : ℕ) → seek-lts.Need-part-seek-end (claims t) (seek-at t) seek.Post
 seek-part-seek-end t c = omega arith
 
-seek-mul-seek-2 : (t : ℕ) → seek-lts.Need-mul-seek-2 (
-  least-reads.Asked,
-  least-reads.Learnt,
-  gap-reads.Asked,
-  gap-reads.Learnt,
-  seek-below t,
-  seek.Post,
-) (seek-at t) seek.Post
+seek-mul-seek-2 : (t : ℕ) → seek-lts.Need-mul-seek-2 (claims t) (seek-at t) seek.Post
 seek-mul-seek-2 t c = omega (arith, c .before .before .before .before .before .before .before .before .before .before .before .before .before .before .before .before .before)
 
-seek-sub-seek-2 : (t : ℕ) → seek-lts.Need-sub-seek-2 (
-  least-reads.Asked,
-  least-reads.Learnt,
-  gap-reads.Asked,
-  gap-reads.Learnt,
-  seek-below t,
-  seek.Post,
-) (seek-at t) seek.Post
+seek-sub-seek-2 : (t : ℕ) → seek-lts.Need-sub-seek-2 (claims t) (seek-at t) seek.Post
 seek-sub-seek-2 t c = omega arith
 
-seek-part-seek-start-2 : (t : ℕ) → seek-lts.Need-part-seek-start-2 (
-  least-reads.Asked,
-  least-reads.Learnt,
-  gap-reads.Asked,
-  gap-reads.Learnt,
-  seek-below t,
-  seek.Post,
-) (seek-at t) seek.Post
+seek-part-seek-start-2 : (t : ℕ) → seek-lts.Need-part-seek-start-2 (claims t) (seek-at t) seek.Post
 seek-part-seek-start-2 t c = omega arith
 
-seek-part-seek-end-2 : (t : ℕ) → seek-lts.Need-part-seek-end-2 (
-  least-reads.Asked,
-  least-reads.Learnt,
-  gap-reads.Asked,
-  gap-reads.Learnt,
-  seek-below t,
-  seek.Post,
-) (seek-at t) seek.Post
+seek-part-seek-end-2 : (t : ℕ) → seek-lts.Need-part-seek-end-2 (claims t) (seek-at t) seek.Post
 seek-part-seek-end-2 t c = omega (arith, c .before .before .before .before .before .before .before .before .before .before .before .before .before .before .before .before .before .pre .1 .places)
 
-seek-seek-requires-2 : (t : ℕ) → seek-lts.Need-seek-requires-2 (
-  least-reads.Asked,
-  least-reads.Learnt,
-  gap-reads.Asked,
-  gap-reads.Learnt,
-  seek-below t,
-  seek.Post,
-) (seek-at t) seek.Post
+seek-seek-requires-2 : (t : ℕ) → seek-lts.Need-seek-requires-2 (claims t) (seek-at t) seek.Post
 seek-seek-requires-2 t c κs = let a = c .before .before .before .before .before .before .before .before .before .before .before .before .before .before .before .before .before .before .args in
     let o = a .o .now in
     let b = a .b .now in
@@ -315,14 +151,7 @@ seek-seek-requires-2 t c κs = let a = c .before .before .before .before .before
       },
     )
 
-seek-returns-4 : (t : ℕ) → seek-lts.Need-returns-4 (
-  least-reads.Asked,
-  least-reads.Learnt,
-  gap-reads.Asked,
-  gap-reads.Learnt,
-  seek-below t,
-  seek.Post,
-) (seek-at t) seek.Post
+seek-returns-4 : (t : ℕ) → seek-lts.Need-returns-4 (claims t) (seek-at t) seek.Post
 seek-returns-4 t c = let a = c .before .before .before .before .before .before .before .before .before .before .before .before .before .before .before .before .before .before .before .args in
     let o = a .o .now in
     let b = a .b .now in
@@ -336,94 +165,31 @@ seek-returns-4 t c = let a = c .before .before .before .before .before .before .
     ∙ (λ i. searchIn (a .faces .now) (vec (a .x) (a .y) (a .z)) (a .enough) (treeIn (eo i) (eb i)) (c .before .before .before .before .before .before .seek .ensures i))
     ∙ low-first o b (a .faces .now) (vec (a .x) (a .y) (a .z)) (a .enough) (a .s) test more (sym (λ i. le (c .before .before .before .before .before .before .before .before .before .before .before .before .gap .ensures i) (c .before .before .before .before .before .before .before .before .before .before .gap2 .ensures i)) ∙ c .before .before .before .before .before .before .before .before .before .if3 .taken)
 
-seek-mul-seek-3 : (t : ℕ) → seek-lts.Need-mul-seek-3 (
-  least-reads.Asked,
-  least-reads.Learnt,
-  gap-reads.Asked,
-  gap-reads.Learnt,
-  seek-below t,
-  seek.Post,
-) (seek-at t) seek.Post
+seek-mul-seek-3 : (t : ℕ) → seek-lts.Need-mul-seek-3 (claims t) (seek-at t) seek.Post
 seek-mul-seek-3 t c = omega (arith, c .before .before .before .before .before .before .before .before .before .before)
 
-seek-sub-seek-3 : (t : ℕ) → seek-lts.Need-sub-seek-3 (
-  least-reads.Asked,
-  least-reads.Learnt,
-  gap-reads.Asked,
-  gap-reads.Learnt,
-  seek-below t,
-  seek.Post,
-) (seek-at t) seek.Post
+seek-sub-seek-3 : (t : ℕ) → seek-lts.Need-sub-seek-3 (claims t) (seek-at t) seek.Post
 seek-sub-seek-3 t c = omega arith
 
-seek-part-seek-start-3 : (t : ℕ) → seek-lts.Need-part-seek-start-3 (
-  least-reads.Asked,
-  least-reads.Learnt,
-  gap-reads.Asked,
-  gap-reads.Learnt,
-  seek-below t,
-  seek.Post,
-) (seek-at t) seek.Post
+seek-part-seek-start-3 : (t : ℕ) → seek-lts.Need-part-seek-start-3 (claims t) (seek-at t) seek.Post
 seek-part-seek-start-3 t c = omega arith
 
-seek-part-seek-end-3 : (t : ℕ) → seek-lts.Need-part-seek-end-3 (
-  least-reads.Asked,
-  least-reads.Learnt,
-  gap-reads.Asked,
-  gap-reads.Learnt,
-  seek-below t,
-  seek.Post,
-) (seek-at t) seek.Post
+seek-part-seek-end-3 : (t : ℕ) → seek-lts.Need-part-seek-end-3 (claims t) (seek-at t) seek.Post
 seek-part-seek-end-3 t c = omega arith
 
-seek-mul-seek-4 : (t : ℕ) → seek-lts.Need-mul-seek-4 (
-  least-reads.Asked,
-  least-reads.Learnt,
-  gap-reads.Asked,
-  gap-reads.Learnt,
-  seek-below t,
-  seek.Post,
-) (seek-at t) seek.Post
+seek-mul-seek-4 : (t : ℕ) → seek-lts.Need-mul-seek-4 (claims t) (seek-at t) seek.Post
 seek-mul-seek-4 t c = omega (arith, c .before .before .before .before .before .before .before .before .before .before .before)
 
-seek-sub-seek-4 : (t : ℕ) → seek-lts.Need-sub-seek-4 (
-  least-reads.Asked,
-  least-reads.Learnt,
-  gap-reads.Asked,
-  gap-reads.Learnt,
-  seek-below t,
-  seek.Post,
-) (seek-at t) seek.Post
+seek-sub-seek-4 : (t : ℕ) → seek-lts.Need-sub-seek-4 (claims t) (seek-at t) seek.Post
 seek-sub-seek-4 t c = omega arith
 
-seek-part-seek-start-4 : (t : ℕ) → seek-lts.Need-part-seek-start-4 (
-  least-reads.Asked,
-  least-reads.Learnt,
-  gap-reads.Asked,
-  gap-reads.Learnt,
-  seek-below t,
-  seek.Post,
-) (seek-at t) seek.Post
+seek-part-seek-start-4 : (t : ℕ) → seek-lts.Need-part-seek-start-4 (claims t) (seek-at t) seek.Post
 seek-part-seek-start-4 t c = omega arith
 
-seek-part-seek-end-4 : (t : ℕ) → seek-lts.Need-part-seek-end-4 (
-  least-reads.Asked,
-  least-reads.Learnt,
-  gap-reads.Asked,
-  gap-reads.Learnt,
-  seek-below t,
-  seek.Post,
-) (seek-at t) seek.Post
+seek-part-seek-end-4 : (t : ℕ) → seek-lts.Need-part-seek-end-4 (claims t) (seek-at t) seek.Post
 seek-part-seek-end-4 t c = omega (arith, c .before .before .before .before .before .before .before .before .before .before .before .pre .1 .places)
 
-seek-seek-requires-3 : (t : ℕ) → seek-lts.Need-seek-requires-3 (
-  least-reads.Asked,
-  least-reads.Learnt,
-  gap-reads.Asked,
-  gap-reads.Learnt,
-  seek-below t,
-  seek.Post,
-) (seek-at t) seek.Post
+seek-seek-requires-3 : (t : ℕ) → seek-lts.Need-seek-requires-3 (claims t) (seek-at t) seek.Post
 seek-seek-requires-3 t c κs = let a = c .before .before .before .before .before .before .before .before .before .before .before .before .args in
     let o = a .o .now in
     let b = a .b .now in
@@ -442,14 +208,7 @@ seek-seek-requires-3 t c κs = let a = c .before .before .before .before .before
       },
     )
 
-seek-returns-5 : (t : ℕ) → seek-lts.Need-returns-5 (
-  least-reads.Asked,
-  least-reads.Learnt,
-  gap-reads.Asked,
-  gap-reads.Learnt,
-  seek-below t,
-  seek.Post,
-) (seek-at t) seek.Post
+seek-returns-5 : (t : ℕ) → seek-lts.Need-returns-5 (claims t) (seek-at t) seek.Post
 seek-returns-5 t c = let a = c .before .before .before .before .before .before .before .before .before .before .before .before .before .before .before .before .args in
     let o = a .o .now in
     let b = a .b .now in
@@ -465,34 +224,13 @@ seek-returns-5 t c = let a = c .before .before .before .before .before .before .
     ∙ (λ i. searchIn (a .faces .now) (vec (a .x) (a .y) (a .z)) (a .enough) (treeIn (take h o) (take h b)) ((c .before .before .before .seek3 .ensures ∙ (λ j. searchIn (a .faces .now) (vec (a .x) (a .y) (a .z)) (a .enough) (treeIn (eo j) (eb j)) (a .s))) i))
     ∙ high-first o b (a .faces .now) (vec (a .x) (a .y) (a .z)) (a .enough) (a .s) test more (sym (λ i. le (c .before .before .before .before .before .before .before .before .before .gap .ensures i) (c .before .before .before .before .before .before .before .gap2 .ensures i)) ∙ c .before .before .before .before .before .before .if3 .left)
 
-seek-slice-aggregate-seek-3 : (t : ℕ) → seek-lts.Need-slice-aggregate-seek-3 (
-  least-reads.Asked,
-  least-reads.Learnt,
-  gap-reads.Asked,
-  gap-reads.Learnt,
-  seek-below t,
-  seek.Post,
-) (seek-at t) seek.Post
+seek-slice-aggregate-seek-3 : (t : ℕ) → seek-lts.Need-slice-aggregate-seek-3 (claims t) (seek-at t) seek.Post
 seek-slice-aggregate-seek-3 t c = sym (length-take-le _ _ (omega arith))
 
-seek-slice-aggregate-seek-4 : (t : ℕ) → seek-lts.Need-slice-aggregate-seek-4 (
-  least-reads.Asked,
-  least-reads.Learnt,
-  gap-reads.Asked,
-  gap-reads.Learnt,
-  seek-below t,
-  seek.Post,
-) (seek-at t) seek.Post
+seek-slice-aggregate-seek-4 : (t : ℕ) → seek-lts.Need-slice-aggregate-seek-4 (claims t) (seek-at t) seek.Post
 seek-slice-aggregate-seek-4 t c = sym (length-take-le _ _ (omega (arith, c .before .before .before .before .before .before .before .before .before .before .before .before .before .before .before .before .before .before .pre .1 .places)))
 
-seek-seek-requires-4 : (t : ℕ) → seek-lts.Need-seek-requires-4 (
-  least-reads.Asked,
-  least-reads.Learnt,
-  gap-reads.Asked,
-  gap-reads.Learnt,
-  seek-below t,
-  seek.Post,
-) (seek-at t) seek.Post
+seek-seek-requires-4 : (t : ℕ) → seek-lts.Need-seek-requires-4 (claims t) (seek-at t) seek.Post
 seek-seek-requires-4 t c κs = let a = c .before .before .before .before .before .before .before .before .before .before .before .before .before .before .before .before .before .before .args in
     let o = a .o .now in
     let b = a .b .now in
@@ -509,14 +247,7 @@ seek-seek-requires-4 t c κs = let a = c .before .before .before .before .before
       },
     )
 
-seek-returns-6 : (t : ℕ) → seek-lts.Need-returns-6 (
-  least-reads.Asked,
-  least-reads.Learnt,
-  gap-reads.Asked,
-  gap-reads.Learnt,
-  seek-below t,
-  seek.Post,
-) (seek-at t) seek.Post
+seek-returns-6 : (t : ℕ) → seek-lts.Need-returns-6 (claims t) (seek-at t) seek.Post
 seek-returns-6 t c = let a = c .before .before .before .before .before .before .before .before .before .before .before .before .before .before .before .before .before .before .before .args in
     let o = a .o .now in
     let b = a .b .now in
@@ -531,14 +262,8 @@ seek-returns-6 t c = let a = c .before .before .before .before .before .before .
     ∙ high-first o b (a .faces .now) (vec (a .x) (a .y) (a .z)) (a .enough) (a .s) test more (sym (λ i. le (c .before .before .before .before .before .before .before .before .before .before .before .before .gap .ensures i) (c .before .before .before .before .before .before .before .before .before .before .gap2 .ensures i)) ∙ c .before .before .before .before .before .before .before .before .before .if3 .left)
 
 pub +seek-spec : {M : Type 1} → statement M
-+seek-spec = close μ-seek λ t. seek-lts.spec (
-  least-reads.Asked,
-  least-reads.Learnt,
-  gap-reads.Asked,
-  gap-reads.Learnt,
-  seek-below t,
-  seek.Post,
-)
++seek-spec = close μ-seek λ t. seek-lts.spec
+    (claims t)
     (seek-at t)
     seek.Post
     (seek-returns t)
