@@ -25,105 +25,40 @@ decimal-at t = and 1 decimal-kinds.ps (is 1 decimal-kinds.ps μ-decimal t) decim
 abbrev decimal-below : ℕ → In 1 decimal-kinds.ps
 decimal-below t = and 1 decimal-kinds.ps (falls 1 decimal-kinds.ps _<_ μ-decimal t) decimal.Pre
 
-decimal-digit-requires : (t : ℕ) → decimal-lts.Need-digit-requires (
-  digit-reads.Asked,
-  digit-reads.Learnt,
-  byte-reads.Asked,
-  byte-reads.Learnt,
-  decimal-below t,
-  decimal.Post,
-) (decimal-at t) decimal.Post
+-- what the calls ask and promise: that of `decimal` itself is for smaller numbers
+abbrev claims : ℕ → decimal-lts.Claims
+claims t = (digit-reads.Asked, digit-reads.Learnt, byte-reads.Asked, byte-reads.Learnt, decimal-below t, decimal.Post)
+
+decimal-digit-requires : (t : ℕ) → decimal-lts.Need-digit-requires (claims t) (decimal-at t) decimal.Post
 decimal-digit-requires t c κs = omega arith
 
-decimal-byte-requires : (t : ℕ) → decimal-lts.Need-byte-requires (
-  digit-reads.Asked,
-  digit-reads.Learnt,
-  byte-reads.Asked,
-  byte-reads.Learnt,
-  decimal-below t,
-  decimal.Post,
-) (decimal-at t) decimal.Post
+decimal-byte-requires : (t : ℕ) → decimal-lts.Need-byte-requires (claims t) (decimal-at t) decimal.Post
 decimal-byte-requires t c κs = c .before .before .before .before .pre .1
 
-decimal-same-length : (t : ℕ) → decimal-lts.Need-same-length (
-  digit-reads.Asked,
-  digit-reads.Learnt,
-  byte-reads.Asked,
-  byte-reads.Learnt,
-  decimal-below t,
-  decimal.Post,
-) (decimal-at t) decimal.Post
+decimal-same-length : (t : ℕ) → decimal-lts.Need-same-length (claims t) (decimal-at t) decimal.Post
 decimal-same-length t c = same-long (c .before .before .byte .ensures)
 
-decimal-returns : (t : ℕ) → decimal-lts.Need-returns (
-  digit-reads.Asked,
-  digit-reads.Learnt,
-  byte-reads.Asked,
-  byte-reads.Learnt,
-  decimal-below t,
-  decimal.Post,
-) (decimal-at t) decimal.Post
+decimal-returns : (t : ℕ) → decimal-lts.Need-returns (claims t) (decimal-at t) decimal.Post
 decimal-returns t c = retext (ap (λ (d : ℕ). d ∷ []) (c .before .before .before .digit .ensures) ∙ sym (decimal-small (c .before .before .before .before .before .before .before .args .n) (search needs))) (c .before .before .byte .ensures)
 
-decimal-decimal-requires : (t : ℕ) → decimal-lts.Need-decimal-requires (
-  digit-reads.Asked,
-  digit-reads.Learnt,
-  byte-reads.Asked,
-  byte-reads.Learnt,
-  decimal-below t,
-  decimal.Post,
-) (decimal-at t) decimal.Post
+decimal-decimal-requires : (t : ℕ) → decimal-lts.Need-decimal-requires (claims t) (decimal-at t) decimal.Post
 decimal-decimal-requires t c κs = (omega (arith, c .before .before .before .pre .0), c .before .before .before .pre .1)
 
-decimal-digit-requires-2 : (t : ℕ) → decimal-lts.Need-digit-requires-2 (
-  digit-reads.Asked,
-  digit-reads.Learnt,
-  byte-reads.Asked,
-  byte-reads.Learnt,
-  decimal-below t,
-  decimal.Post,
-) (decimal-at t) decimal.Post
+decimal-digit-requires-2 : (t : ℕ) → decimal-lts.Need-digit-requires-2 (claims t) (decimal-at t) decimal.Post
 decimal-digit-requires-2 t c κs = omega arith
 
-decimal-byte-requires-2 : (t : ℕ) → decimal-lts.Need-byte-requires-2 (
-  digit-reads.Asked,
-  digit-reads.Learnt,
-  byte-reads.Asked,
-  byte-reads.Learnt,
-  decimal-below t,
-  decimal.Post,
-) (decimal-at t) decimal.Post
+decimal-byte-requires-2 : (t : ℕ) → decimal-lts.Need-byte-requires-2 (claims t) (decimal-at t) decimal.Post
 decimal-byte-requires-2 t c κs = within (c .before .before .before .before .decimal .ensures)
 
-decimal-same-length-2 : (t : ℕ) → decimal-lts.Need-same-length-2 (
-  digit-reads.Asked,
-  digit-reads.Learnt,
-  byte-reads.Asked,
-  byte-reads.Learnt,
-  decimal-below t,
-  decimal.Post,
-) (decimal-at t) decimal.Post
+decimal-same-length-2 : (t : ℕ) → decimal-lts.Need-same-length-2 (claims t) (decimal-at t) decimal.Post
 decimal-same-length-2 t c = same-long (c .before .before .byte2 .ensures) ∙ same-long (c .before .before .before .before .before .before .before .decimal .ensures)
 
-decimal-returns-2 : (t : ℕ) → decimal-lts.Need-returns-2 (
-  digit-reads.Asked,
-  digit-reads.Learnt,
-  byte-reads.Asked,
-  byte-reads.Learnt,
-  decimal-below t,
-  decimal.Post,
-) (decimal-at t) decimal.Post
+decimal-returns-2 : (t : ℕ) → decimal-lts.Need-returns-2 (claims t) (decimal-at t) decimal.Post
 decimal-returns-2 t c = retext (ap (λ (d : ℕ). text (c .before .before .before .before .before .before .before .before .before .before .before .args .n / 10) ++ (d ∷ [])) (c .before .before .before .digit2 .ensures) ∙ sym (decimal-more (c .before .before .before .before .before .before .before .before .before .before .before .args .n) (search needs))) (then (c .before .before .before .before .before .before .before .decimal .ensures) (c .before .before .byte2 .ensures))
 
 pub +decimal-spec : {M : Type 1} → statement M
-+decimal-spec = close μ-decimal λ t. decimal-lts.spec (
-  digit-reads.Asked,
-  digit-reads.Learnt,
-  byte-reads.Asked,
-  byte-reads.Learnt,
-  decimal-below t,
-  decimal.Post,
-)
++decimal-spec = close μ-decimal λ t. decimal-lts.spec
+    (claims t)
     (decimal-at t)
     decimal.Post
     (decimal-digit-requires t)
