@@ -2,7 +2,6 @@
 use mathlib.Core.Path.{_≡_, refl, sym, ap, _∙_}
 use mathlib.Core.Bool.{Bool, true, false, _||_}
 use mathlib.Core.List.{List, []}
-use mathlib.Core.Logic.{⊎-elim}
 use Prim.Native.Nat.{ℕ, zero, suc, _+_, _-_, _/_, _≤_, _<_}
 use native.Mathlib.Omega.{arith}
 use lib.Ieee.{Float, le}
@@ -11,7 +10,7 @@ use lib.Seq.{length-take-le, getD-take, getD-drop, take-all}
 use Rattle.lists.specs.Lists.{choose}
 use Rattle.lists.proofs.Laws.{choose-true, choose-false}
 use Rattle.geom.specs.declared.Vec3.{Vec3}
-use Rattle.sort.proofs.Laws.{le-or-lt}
+use Rattle.median.proofs.Places.{either}
 use Rattle.tree.specs.declared.Bounds.{Bounds}
 use Rattle.tree.specs.Tree.{Tree, leaf, fork, boxOf}
 use Rattle.tree.specs.Steps.{boundsAt, storedTree, treeIn}
@@ -27,10 +26,9 @@ box-in : (f : ℕ) (o : List ℕ) (b : List (List Float)) → boxOf (storedTree 
 unfolding storedTree
 box-in zero o b = refl
 box-in (suc f) o b =
-    ⊎-elim
+    either (length o) 4
     (λ (n : length o ≤ 4). ap boxOf (stored-short (suc f) o b n))
     (λ (n : 4 < length o). ap boxOf (stored-fork f o b n))
-    (le-or-lt (length o) 4)
 
 module _ (o : List ℕ) (b : List (List Float)) where
   -- the middle places of the two halves
@@ -87,10 +85,9 @@ module _ (o : List ℕ) (b : List (List Float)) where
     pub passes : (s .stopped || le (s .best) (gapOf (boundsAt (getD b (length o / 2) [])) p)) ≡ true → s ≡ searchIn faces p enough (treeIn o b) s
     unfolding searchIn own seek
     passes e =
-        ⊎-elim
+        either (length o) 4
         (λ (n : length o ≤ 4). sym (ap seek (in-leaf n) ∙ choose-true _ s _ e))
         (λ (n : 4 < length o). sym (ap seek (in-fork n) ∙ choose-true _ s _ e))
-        (le-or-lt (length o) 4)
 
     module _ (e : (s .stopped || le (s .best) (gapOf (boundsAt (getD b (length o / 2) [])) p)) ≡ false) where
       pub at-leaf : length o ≤ 4 → atLeaf faces p enough (leastOf faces p (s .best) o) ≡ searchIn faces p enough (treeIn o b) s

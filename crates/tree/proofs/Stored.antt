@@ -2,7 +2,6 @@
 use mathlib.Core.Path.{_≡_, refl, sym, ap, _∙_}
 use mathlib.Core.Bool.{Bool, true, false}
 use mathlib.Core.List.{List, [], _++_}
-use mathlib.Core.Logic.{⊎-elim}
 use Prim.Native.Nat.{ℕ, zero, suc, _-_, _/_, _≤_, _<_}
 use native.Mathlib.Nat.{add-zero}
 use native.Mathlib.Omega.{arith}
@@ -11,10 +10,10 @@ use lib.Seq.{length-take-le, take-at, drop-at, getD-set-same, getD-set-other, ta
 use lib.Ieee.{Float}
 use borrow.Author.Tests.{le-leb, lt-leb}
 use Rattle.lists.specs.Lists.{choose}
-use Rattle.sort.specs.Sort.{rankBy}
-use Rattle.sort.proofs.Laws.{length-sorted, le-or-lt}
+use Rattle.median.specs.Median.{rankBy, parted}
+use Rattle.median.proofs.Places.{parted-length, either}
 use Rattle.tree.specs.declared.Bounds.{Bounds}
-use Rattle.tree.specs.Tree.{leaf, fork, boundsOf, axisOf, keysAlong, orderAlong, treeOf}
+use Rattle.tree.specs.Tree.{leaf, fork, boundsOf, axisOf, keysAlong, treeOf}
 use Rattle.tree.specs.Steps.{along, stored, boundsAt, storedTree, treeIn}
 
 -- ---- one level of the tree in the lists
@@ -37,13 +36,12 @@ pub stored-fuel : (f g : ℕ) (o : List ℕ) (b : List (List Float)) → length 
 stored-fuel zero g o b hf hg = stored-short zero o b (omega arith) ∙ sym (stored-short g o b (omega arith))
 stored-fuel (suc f) zero o b hf hg = stored-short (suc f) o b (omega arith) ∙ sym (stored-short zero o b (omega arith))
 stored-fuel (suc f) (suc g) o b hf hg =
-    ⊎-elim
+    either (length o) 4
     (λ (n : length o ≤ 4). stored-short (suc f) o b n ∙ sym (stored-short (suc g) o b n))
     (λ (n : 4 < length o).
     let low = stored-fuel f g (take (length o / 2) o) (take (length o / 2) b) (omega (arith, length-half o)) (omega (arith, length-half o)) in
     let high = stored-fuel f g (drop (length o / 2) o) (drop (length o / 2) b) (omega (arith, length-drop (length o / 2) o)) (omega (arith, length-drop (length o / 2) o)) in
     stored-fork f o b n ∙ (λ i. fork (boundsAt (getD b (length o / 2) [])) (low i) (high i)) ∙ sym (stored-fork g o b n))
-    (le-or-lt (length o) 4)
 
 -- the first place of a part of two or more holds no box
 first-free : (f : ℕ) (o : List ℕ) (b : List (List Float)) (v : List Float) → 2 ≤ length o → storedTree f o (set b 0 v) ≡ storedTree f o b
@@ -51,24 +49,23 @@ unfolding storedTree
 first-free zero o b v n = ap (λ (x : List Float). leaf (boundsAt x) o) (getD-set-other b 0 (length o / 2) v [] (λ e. omega arith))
 first-free (suc f) o b v n =
     let own = getD-set-other b 0 (length o / 2) v [] (λ e. omega arith) in
-    ⊎-elim
+    either (length o) 4
     (λ (s : length o ≤ 4). stored-short (suc f) o (set b 0 v) s ∙ ap (λ (x : List Float). leaf (boundsAt x) o) own ∙ sym (stored-short (suc f) o b s))
     (λ (s : 4 < length o).
     let low = ap (storedTree f (take (length o / 2) o)) (take-set-lt (length o / 2) b 0 v (omega arith)) ∙ first-free f (take (length o / 2) o) (take (length o / 2) b) v (omega (arith, length-half o)) in
     let high = ap (storedTree f (drop (length o / 2) o)) (drop-set-lt (length o / 2) b 0 v (omega arith)) in
     stored-fork f o (set b 0 v) s ∙ (λ i. fork (boundsAt (own i)) (low i) (high i)) ∙ sym (stored-fork f o b s))
-    (le-or-lt (length o) 4)
 
 -- ---- one level of the tree of triangles
 
 module _ (faces : List (List Float)) where
-  -- the two halves of a list, along the way that its box is longest
+  -- a list parted at its middle, along the way that its box is longest
   along-box : List ℕ → List ℕ
-  along-box l = orderAlong faces (axisOf (boundsOf faces l)) l
+  along-box l = parted (rankBy (keysAlong (axisOf (boundsOf faces l)) faces)) l
 
   length-along : (l : List ℕ) → length (along-box l) ≡ length l
   unfolding along-box
-  length-along l = length-sorted (rankBy (keysAlong (axisOf (boundsOf faces l)) faces)) l
+  length-along l = parted-length (rankBy (keysAlong (axisOf (boundsOf faces l)) faces)) l
 
   length-low : (l : List ℕ) → length (take (length l / 2) (along-box l)) ≡ length l / 2
   length-low l = length-take-le (length l / 2) (along-box l) (omega (arith, length-along l))
@@ -90,13 +87,12 @@ module _ (faces : List (List Float)) where
   tree-fuel zero g l hf hg = tree-short zero l (omega arith) ∙ sym (tree-short g l (omega arith))
   tree-fuel (suc f) zero l hf hg = tree-short (suc f) l (omega arith) ∙ sym (tree-short zero l (omega arith))
   tree-fuel (suc f) (suc g) l hf hg =
-      ⊎-elim
+      either (length l) 4
       (λ (n : length l ≤ 4). tree-short (suc f) l n ∙ sym (tree-short (suc g) l n))
       (λ (n : 4 < length l).
       let low = tree-fuel f g (take (length l / 2) (along-box l)) (omega (arith, length-low l)) (omega (arith, length-low l)) in
       let high = tree-fuel f g (drop (length l / 2) (along-box l)) (omega (arith, length-high l)) (omega (arith, length-high l)) in
       tree-fork f l n ∙ (λ i. fork (boundsOf faces l) (low i) (high i)) ∙ sym (tree-fork g l n))
-      (le-or-lt (length l) 4)
 
   -- ---- what a build leaves
 
@@ -107,8 +103,8 @@ module _ (faces : List (List Float)) where
       ∙ ap (λ (x : List Float). leaf (boundsAt x) o) (getD-set-same b (length o / 2) (stored (boundsOf faces o)) [] (omega arith))
       ∙ sym (tree-short (length o) o n)
 
-  -- a list l, its triangles in order s, and what the builds of the two halves of s leave
-  module _ (l s o₁ o₂ : List ℕ) (b₁ b₂ : List (List Float)) (n : 4 < length l) (is : s ≡ orderAlong faces (axisOf (boundsOf faces l)) l)
+  -- a list l, its triangles parted, s, and what the builds of the two halves of s leave
+  module _ (l s o₁ o₂ : List ℕ) (b₁ b₂ : List (List Float)) (n : 4 < length l) (is : s ≡ parted (rankBy (keysAlong (axisOf (boundsOf faces l)) faces)) l)
       (len-o₁ : length o₁ ≡ length l / 2) (len-b₁ : length b₁ ≡ length l / 2) (len-o₂ : length o₂ ≡ length l - length l / 2) (len-b₂ : length b₂ ≡ length l - length l / 2)
       (low : treeIn o₁ b₁ ≡ treeOf faces (length (take (length l / 2) s)) (take (length l / 2) s))
       (high : treeIn o₂ b₂ ≡ treeOf faces (length (drop (length l / 2) s)) (drop (length l / 2) s)) where

@@ -9,7 +9,7 @@ use Rattle.lists.specs.Lists.{choose}
 use Rattle.ieee.specs.Bits.{totalKey}
 use Rattle.geom.specs.Vectors.{vec, plus, less, scaled, least, greatest}
 use Rattle.geom.specs.declared.Vec3.{Vec3}
-use Rattle.sort.specs.Sort.{rankBy, sorted}
+use Rattle.median.specs.Median.{rankBy, parted}
 use Rattle.tree.specs.declared.Bounds.{Bounds}
 use Rattle.tree.specs.declared.Face.{Face}
 
@@ -86,16 +86,13 @@ abbrev pub boxOf : Tree → Bounds
 boxOf (leaf b l) = b
 boxOf (fork b low high) = b
 
--- the triangles of a list in the order along an axis: "ties go by number"
-abbrev pub orderAlong : List (List Float) → ℕ → List ℕ → List ℕ
-orderAlong faces a l = sorted (rankBy (keysAlong a faces)) l
-
--- 01: "a box of more than four triangles is split again at the middle triangle", along its longest way. The first argument bounds the depth: the
--- length of the list is enough
+-- 01: "a box of more than four triangles is split again at the middle triangle", along its longest way, and "ties go by number". Those that rank
+-- before the middle triangle are the lower half, and it and the others the upper: no number stands twice, so that each half has its length. The
+-- first argument bounds the depth: the length of the list is enough
 unfoldable pub treeOf : List (List Float) → ℕ → List ℕ → Tree
 treeOf faces zero l = leaf (boundsOf faces l) l
 treeOf faces (suc f) l =
     let b = boundsOf faces l in
-    let s = orderAlong faces (axisOf b) l in
+    let s = parted (rankBy (keysAlong (axisOf b) faces)) l in
     let half = length l / 2 in
     choose (leb (length l) 4) (leaf b l) (fork b (treeOf faces f (take half s)) (treeOf faces f (drop half s)))

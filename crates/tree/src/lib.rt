@@ -3,7 +3,7 @@
 ghost use mathlib.Core.Path.{_≡_};
 ghost use Prim.Native.Nat.{_≤_, _<_};
 ghost use lib.ListN.{length};
-ghost use Rattle.sort.specs.Sort.{rankBy, sorted};
+ghost use Rattle.median.specs.Median.{rankBy, parted};
 ghost use Rattle.tree.specs.Tree as Tree;
 ghost use Rattle.tree.specs.Steps as Steps;
 use geom::Vec3;
@@ -83,20 +83,20 @@ fn axis(b: Bounds) -> u32
     2
 }
 
-// Sorts the order along an axis, by one of three lists of keys.
-fn sort_along(a: u32, kx: &[u64], ky: &[u64], kz: &[u64], order: &mut [u32], scratch: &mut [u32])
-    requires { ⌜ length (now order) ≤ length (now scratch) ⌝ }
-    ensures { λ _. ⌜ now (order .exit) ≡ sorted (rankBy (Steps.along a (now (kx .entry)) (now (ky .entry)) (now (kz .entry)))) (now (order .entry)) ⌝ }
+// Parts the order at its middle along an axis, by one of three lists of keys.
+fn part_along(a: u32, kx: &[u64], ky: &[u64], kz: &[u64], order: &mut [u32], scratch: &mut [u32])
+    requires { ⌜ (0 < length (now order)) × (length (now order) ≤ length (now scratch)) ⌝ }
+    ensures { λ _. ⌜ now (order .exit) ≡ parted (rankBy (Steps.along a (now (kx .entry)) (now (ky .entry)) (now (kz .entry)))) (now (order .entry)) ⌝ }
 {
     if a == 0 {
-        sort::sort(kx, order, scratch);
+        median::part(kx, order, scratch);
         return;
     }
     if a == 1 {
-        sort::sort(ky, order, scratch);
+        median::part(ky, order, scratch);
         return;
     }
-    sort::sort(kz, order, scratch);
+    median::part(kz, order, scratch);
 }
 
 // Builds the tree of a part of the order: each half is lent on, to be arranged in turn, and the part's box goes to its middle place. That place is
@@ -120,7 +120,7 @@ pub fn build(
         boxes[h] = [b.lo.x, b.lo.y, b.lo.z, b.hi.x, b.hi.y, b.hi.z];
         return;
     }
-    sort_along(axis(b), kx, ky, kz, order, scratch);
+    part_along(axis(b), kx, ky, kz, order, scratch);
     build(faces, kx, ky, kz, &mut order[..h], scratch, &mut boxes[..h]);
     build(
         faces,
