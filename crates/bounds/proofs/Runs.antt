@@ -11,7 +11,7 @@ use Rattle.lists.proofs.Laws.{length-tabulate, getD-tabulate, choose-true, choo
 use Rattle.ieee.specs.Basic.{one64}
 use Rattle.ieee.specs.Sqrt.{sqrtOf}
 use Rattle.oc.specs.Start.{startDensity, startDesign}
-use Rattle.update.proofs.Bounds.{Move}
+use Rattle.rates.proofs.Bounds.{Move}
 use Rattle.plain.specs.declared.Verdict.{Verdict}
 use Rattle.plain.specs.declared.Verdict.the-variants.{Kept, Over, Halts, Begins, Solves}
 use Rattle.plain.specs.declared.Course.{Course}

@@ -18,9 +18,9 @@ use Rattle.ieee.proofs.Order.{le-number, le-transitive}
 use Rattle.ieee.proofs.Bounds.{max-either, min-either, max-left, max-right, min-left, min-right, raised-lowered}
 use Rattle.oc.specs.Start.{xMin}
 use Rattle.step.specs.Design.{grown, limited, nextOf, designAt}
-use Rattle.update.specs.Update.{Given, Stand, trial, first, raises, raised, halves, halved, whileTo, raisedAll, updated}
+use Rattle.rates.specs.Rates.{Given, Stand, trial, first, raises, raised, halves, halved, whileTo, raisedAll, updated}
 use Rattle.lanes.proofs.Order.{Finite, number-left, positive-finite}
-use Rattle.update.proofs.Bounds.{Move}
+use Rattle.rates.proofs.Bounds.{Move}
 use Rattle.plain.proofs.Update.{length-updated}
 use Rattle.bounds.specs.Bounds.{Bounded, UpdatedBy}
 use Rattle.bounds.proofs.Floats.{add-over, add-over-second, sub-below}

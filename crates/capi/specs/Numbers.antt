@@ -9,10 +9,11 @@ use Rattle.oc.specs.declared.seen.Sharpness.{Sharpness}
 use Rattle.oc.specs.declared.seen.Sharpness.the-variants.{Off, At}
 use Rattle.oc.specs.declared.kept.Rule.{Rule}
 use Rattle.oc.specs.declared.kept.Rule.the-variants.{Straight, Sharpened}
+use Rattle.rates.specs.Rates.{Given, updated}
 use Rattle.update.specs.declared.Updated.{Updated}
 use Rattle.update.specs.declared.Ending.{Ending}
 use Rattle.update.specs.declared.Ending.the-variants.{Met, Cramped, Spent}
-use Rattle.update.specs.Update.{Given, updated, endingOf}
+use Rattle.update.specs.Update.{endingOf}
 use Rattle.capi.specs.declared.updates.Update.{Update}
 
 -- beta counts where the densities are sharpened

@@ -4,7 +4,7 @@ ghost use mathlib.Core.Bool.{not, _||_};
 ghost use lib.ListN.{length};
 ghost use lib.Dec.{eqb, ltb};
 ghost use Rattle.step.specs.Design.{gainsOf};
-ghost use Rattle.update.specs.Update.{updated};
+ghost use Rattle.rates.specs.Rates.{updated};
 ghost use Rattle.capi.specs.Lent.{refusalOf, unless, left, Used};
 ghost use Rattle.capi.specs.Numbers.{ruleOf, endingNumber, endingFirst, endingSecond, toldOf, refusedWith, answerOf};
 use update::Ending;

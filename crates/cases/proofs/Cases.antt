@@ -20,7 +20,7 @@ use Rattle.faces.proofs.Cases.{above-a-corner, above-the-face}
 use Rattle.topo.proofs.Cases.{level-of-half, level-of-minus-three, level-of-seven}
 use Rattle.oc.proofs.Cases.{projection-ends}
 use Rattle.off_centre.proofs.Cases.{reaches-one-and-none, even-at-half}
-use Rattle.update.proofs.Cases.{nan-slope}
+use Rattle.rates.proofs.Cases.{nan-slope}
 use Rattle.cases.specs.Cases.{ProvedCases, OwnRows, twoFree}
 use Rattle.cases.proofs.Example.{worked-example}
 

@@ -7,7 +7,7 @@ use lib.ListN.{length}
 use lib.Ieee.{Float}
 use Rattle.lists.proofs.Laws.{length-tabulate}
 use Rattle.step.specs.Design.{designAt}
-use Rattle.update.specs.Update.{Given, Stand, trial, first, raises, raised, halves, halved, whileTo, raisedAll, updated}
+use Rattle.rates.specs.Rates.{Given, Stand, trial, first, raises, raised, halves, halved, whileTo, raisedAll, updated}
 
 while-keeps : {A : Type 0} (P : A → Type 0) (p : A → Bool) (f : A → A) → ((s : A) → P s → P (f s)) → (n : ℕ) (s : A) → P s → P (whileTo p f n s)
 unfolding whileTo

@@ -12,7 +12,7 @@ use Rattle.topo.specs.declared.Goal.{Goal}
 use Rattle.topo.specs.declared.Iteration.{Iteration}
 use Rattle.topo.specs.declared.Stop.the-variants.{Stopped}
 use Rattle.oc.specs.Record.{complianceOf}
-use Rattle.update.specs.Update.{Stand}
+use Rattle.rates.specs.Rates.{Stand}
 use Rattle.plain.specs.declared.Phase.{Phase}
 use Rattle.plain.specs.declared.Phase.the-variants.{Idle, Solid, Round}
 use Rattle.plain.specs.declared.Said.{Said}

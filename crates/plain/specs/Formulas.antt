@@ -16,7 +16,7 @@ use Rattle.oc.specs.Seen.{seenDensity, seenSlope}
 use Rattle.oc.specs.Slopes.{workSlope, volumeSlope, straightSlope}
 use Rattle.oc.specs.Record.{complianceOf, fractionOf, changeOf, greyOf}
 use Rattle.step.specs.Design.{gainsOf}
-use Rattle.update.specs.Update.{Given, Stand, updated}
+use Rattle.rates.specs.Rates.{Given, Stand, updated}
 
 -- "The steepness runs 1, 2, 4, 8, 16"
 pub data Steep : Type 0 where

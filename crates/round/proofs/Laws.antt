@@ -17,7 +17,8 @@ use Rattle.oc.specs.Slopes.{workSlope, volumeSlope, straightSlope}
 use Rattle.oc.specs.Record.{complianceOf, fractionOf, changeOf, greyOf}
 use Rattle.update.specs.declared.Updated.{Updated}
 use Rattle.step.specs.Design.{gainsOf}
-use Rattle.update.specs.Update.{Given, updated, Done}
+use Rattle.rates.specs.Rates.{Given, updated}
+use Rattle.update.specs.Update.{Done}
 use Rattle.plain.specs.Formulas.{Case, sharpness, sumOf, givenAt, updateAt, recordAt}
 use Rattle.plain.specs.Calls.{steepAt}
 use Rattle.round.specs.Round.{caseAt, plainSlopes, SlopesInto}

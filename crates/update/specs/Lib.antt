@@ -1,3 +1,2 @@
--- `Update` has the rates that an update tries and how it ends, and `Steps` what the steps of the code promise each other.
+-- `Update` has how an update ends and what it leaves.
 pub mod Update
-pub mod Steps

@@ -1,16 +1,15 @@
 // One update of the design by the optimality criterion (`update` of oc.rs): each value moved toward where the work that it saves for the
 // volume that it costs is the same for all, by at most m, between X_MIN and 1 (1 where solid); that common rate found by halving.
-mod ahead;
-mod plain;
-mod quick;
-
 ghost use mathlib.Core.Path.{_≡_};
+ghost use Prim.Native.Nat.{_<_};
 ghost use lib.ListN.{length};
 ghost use Rattle.step.specs.Design.{gainsOf};
-ghost use Rattle.update.specs.Update.{given, endingOf, Done};
-
-// The most times that one update reckons the volume it would keep.
-const PASSES: usize = 200;
+ghost use Rattle.rates.specs.Rates.{given, firstRate, updated};
+ghost use Rattle.rates.specs.Steps.{standing};
+ghost use Rattle.update.specs.Update.{endingOf, Done};
+use oc::kept::Rule;
+use rates::PASSES;
+use rates::Rates;
 
 pub enum Ending {
     // the kept volume
@@ -24,28 +23,6 @@ pub enum Ending {
 pub struct Updated {
     pub ending: Ending,
     // how many volumes were reckoned
-    pub passes: usize,
-}
-
-// Where an update stands, beside its design: the bracket of rates, the kept volume, and how many volumes were reckoned.
-pub struct Rates {
-    pub low: f64,
-    pub high: f64,
-    pub kept: f64,
-    pub passes: usize,
-}
-
-// The greatest rate known to keep too much, and the least known to keep too little.
-pub struct Known {
-    pub below: f64,
-    pub above: f64,
-}
-
-// Where halving ends, with the last rate that it tried.
-pub struct Tried {
-    pub low: f64,
-    pub high: f64,
-    pub rate: f64,
     pub passes: usize,
 }
 
@@ -66,6 +43,62 @@ fn ended(target: f64, tolerance: f64, at: Rates) -> Ending
     Ending::Cramped(at.low, at.high)
 }
 
+// By few volumes, as the rule asks. No passes: the fast way does not serve.
+fn fast(
+    x: &[f64],
+    gain: &[f64],
+    dv: &[f64],
+    passive: &[bool],
+    m: f64,
+    target: f64,
+    tolerance: f64,
+    rule: Rule,
+    starts: &[u32],
+    near: &[u32],
+    coef: &[f64],
+    volumes: &[f64],
+    first: f64,
+    design: &mut [f64],
+    work: &mut [f64],
+) -> Rates
+    requires { ⌜ (length (now gain) ≡ length (now x)) × (length (now dv) ≡ length (now x)) × (length (now passive) ≡ length (now x)) × (length (now design) ≡ length (now x)) × (length (now work) ≡ length (now x)) ⌝ }
+    requires { ⌜ first ≡ firstRate (given (now (x)) (now (gain)) (now (dv)) (now (passive)) m target tolerance rule (now (starts)) (now (near)) (now (coef)) (now (volumes))) ⌝ }
+    ensures { λ r. ⌜ (0 < r .passes → standing r (now (design .exit)) ≡ updated (given (now (x .entry)) (now (gain .entry)) (now (dv .entry)) (now (passive .entry)) m target tolerance rule (now (starts .entry)) (now (near .entry)) (now (coef .entry)) (now (volumes .entry)))) ⌝ }
+{
+    match rule {
+        Rule::Straight(solid) => quick::straight(
+            x,
+            gain,
+            dv,
+            passive,
+            m,
+            target,
+            tolerance,
+            solid,
+            first,
+            design,
+            work,
+        ),
+        Rule::Sharpened(beta) => ahead::sharpened(
+            x,
+            gain,
+            dv,
+            passive,
+            m,
+            target,
+            tolerance,
+            beta,
+            starts,
+            near,
+            coef,
+            volumes,
+            first,
+            design,
+            work,
+        ),
+    }
+}
+
 // Internal: the lists have one length. `design` is left the updated design; `gain` and `work` are for the call's own use.
 pub fn update(
     x: &[f64],
@@ -75,7 +108,7 @@ pub fn update(
     m: f64,
     target: f64,
     tolerance: f64,
-    rule: oc::kept::Rule,
+    rule: Rule,
     starts: &[u32],
     near: &[u32],
     coef: &[f64],
@@ -89,7 +122,7 @@ pub fn update(
 {
     step::gains(dc, dv, gain);
     let first = step::first_rate(step::most(&gain[..], passive));
-    let at = quick::quick(
+    let at = fast(
         x,
         &gain[..],
         dv,
@@ -111,7 +144,7 @@ pub fn update(
         let ending = ended(target, tolerance, at);
         return Updated { ending, passes };
     }
-    let at = plain::every(
+    let at = halving::every(
         x,
         &gain[..],
         dv,

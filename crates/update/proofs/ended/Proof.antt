@@ -1,6 +1,6 @@
 -- `update::ended` meets its contract: each ending by the tests that lead to it. Assumes nothing.
 use Rattle.ieee.proofs.Basic.{is-nan, is-number}
-use Rattle.update.proofs.Stages.{ended-met, ended-lost, ended-spent, ended-cramped}
+use Rattle.update.proofs.Ends.{ended-met, ended-lost, ended-spent, ended-cramped}
 use borrow.Author.Needs.{needs}
 use Rattle.update.proofs.ended.Statement.{statement}
 use Rattle.update.proofs.ended.Tie as tie

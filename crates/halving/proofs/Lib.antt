@@ -1,0 +1,2 @@
+-- `Stages` has the whole by what each of its stages gave.
+pub mod Stages
