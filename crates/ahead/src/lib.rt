@@ -6,7 +6,7 @@ ghost use lib.ListN.{length};
 ghost use Rattle.lists.specs.Lists.{zero64};
 ghost use Rattle.table.specs.Table.{Wf};
 ghost use Rattle.rates.specs.Rates.{given, trial, reckoned, whileTo, halves, halved, firstRate, updated};
-ghost use Rattle.rates.specs.Steps.{off as offAt, standAt, standing};
+ghost use Rattle.rates.specs.Steps.{standAt, standing};
 use oc::kept::Rule;
 use rates::PASSES;
 use rates::Rates;

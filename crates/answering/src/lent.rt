@@ -8,7 +8,7 @@ ghost use Rattle.oc.specs.declared.seen.Sharpness.the-variants.{Off, At};
 ghost use Rattle.plain.specs.Lent.{overlay};
 ghost use Rattle.plain.specs.Formulas.{sharpness};
 ghost use Rattle.plain.specs.Calls.{steepAt};
-ghost use Rattle.answering.specs.Answers.{Core, Work, Asks, Enough, Scratched, Solved};
+ghost use Rattle.answering.specs.Answers.{Asks, Enough, Scratched, Solved};
 use plain::State;
 use topo::Iteration;
 

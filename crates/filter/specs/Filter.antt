@@ -1,9 +1,8 @@
 -- filter.rs, `Filter::within`: which elements a row takes in and how much of each, by a plain scan over all elements. Definitions only.
-use Prim.Native.Nat.{ℕ, zero, suc, _+_, _*_, _≤_}
+use Prim.Native.Nat.{ℕ, zero, suc, _+_}
 use mathlib.Core.Bool.{Bool, not, _&&_, _||_}
 use mathlib.Core.List.{List, [], _∷_, _++_, map}
 use lib.ListN.{length, getD}
-use lib.Dec.{ltb}
 use lib.Ieee.{Float, nan, binary64, add, sub, mul, div, lt}
 use Rattle.lists.specs.Lists.{foldTo, foldOver, sumTo, anyTo, choose, zero64}
 use Rattle.geom.specs.Vectors.{least, greatest, dist}

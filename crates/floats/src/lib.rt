@@ -2,7 +2,6 @@
 ghost use mathlib.Core.Path.{_≡_};
 ghost use Prim.Native.Nat.{_≤_};
 ghost use lib.ListN.{length, getD};
-ghost use lib.Ieee.{ofBits, binary64};
 ghost use mathlib.Core.List.{[]};
 ghost use Rattle.lists.specs.Lists.{overwrite};
 ghost use Rattle.floats.specs.Floats.{floatAt, pointOf, planeOf};

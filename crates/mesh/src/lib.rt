@@ -1,6 +1,5 @@
 // A mesh of ten-node tetrahedra: volumes, middles and size (mesh.rs), and what the optimiser works on (region.rs, `design`).
 ghost use mathlib.Core.Path.{_≡_};
-ghost use lib.ListN.{length, getD};
 ghost use Rattle.mesh.specs.Mesh as Mesh;
 ghost use Rattle.mesh.specs.Steps as Steps;
 use geom::Vec3;

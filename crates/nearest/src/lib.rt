@@ -1,8 +1,5 @@
 // The nearest triangle to a point by the tree of boxes (region.rs, `Tree::nearest`). Internal: for `asymmetry`.
 ghost use mathlib.Core.Path.{_≡_};
-ghost use Prim.Native.Nat.{_<_, _/_};
-ghost use mathlib.Core.List.{[]};
-ghost use lib.ListN.{length, getD};
 ghost use Rattle.geom.specs.Vectors.{vec};
 ghost use Rattle.tree.specs.Steps.{boundsAt, treeIn};
 ghost use Rattle.nearest.specs.Nearest as Nearest;

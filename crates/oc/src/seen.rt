@@ -1,9 +1,7 @@
 // What a solve is given from the design: each element's density, filtered and sharpened, solid where it must be; and how fast each moves with
 // its filtered density.
 ghost use mathlib.Core.Path.{_≡_};
-ghost use mathlib.Core.Bool.{true};
 ghost use lib.ListN.{length};
-ghost use Rattle.table.specs.Table.{Wf, applied};
 ghost use Rattle.oc.specs.Project.{belowOf, wholeOf, projected, projectedSlope};
 ghost use Rattle.oc.specs.Seen.{densities, slopes, seenDensity, seenSlope};
 

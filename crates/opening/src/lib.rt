@@ -7,7 +7,6 @@ ghost use lib.Ieee.{nan};
 ghost use Rattle.lists.specs.Lists.{anyTo, overwrite, zero64};
 ghost use Rattle.ieee.specs.Basic.{one64};
 ghost use Rattle.oc.specs.Start.{solidVolume, targetOf, startDensity, startDesign};
-ghost use Rattle.filter.specs.Build.{words};
 ghost use Rattle.plain.specs.Lent.{openShort};
 ghost use Rattle.plain.specs.Formulas.{sumOf};
 ghost use Rattle.plain.specs.Opening.{volumeBad, fractionBad, radiusBad, centroidBad, firstRefusal};

@@ -4,7 +4,7 @@ ghost use mathlib.Core.Bool.{false};
 ghost use lib.ListN.{length, take};
 ghost use Rattle.answering.specs.Answers.{listsOf, lengthsOf};
 ghost use Rattle.opening.specs.Opens.{lengthsOf as openLengths};
-ghost use Rattle.job.specs.Job.{jobOf, resultIn};
+ghost use Rattle.job.specs.Job.{jobOf};
 ghost use Rattle.report.specs.Report.{textOf};
 ghost use Rattle.report.specs.Steps.{Wrote};
 ghost use Rattle.printed.specs.Printed.{outcomeBy, outcomeOf};

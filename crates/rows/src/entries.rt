@@ -1,8 +1,7 @@
 // The entries of one row: what its elements come to, their sum, and the writing of them.
 ghost use mathlib.Core.Path.{_≡_};
-ghost use Prim.Native.Nat.{ℕ, _+_, _≤_, _<_};
-ghost use lib.ListN.{length, getD};
-ghost use lib.Ieee.{nan, binary64, mul};
+ghost use Prim.Native.Nat.{_+_, _≤_, _<_};
+ghost use lib.ListN.{length};
 ghost use Rattle.lists.specs.Lists.{sumTo};
 ghost use Rattle.weights.specs.Steps.{Within};
 ghost use Rattle.rows.specs.Steps.{productAt, Apart, Written};

@@ -1,6 +1,5 @@
 // The table, in working lists that are as long as needed.
-ghost use mathlib.Core.Path.{_≡_};
-ghost use Prim.Native.Nat.{_+_, _≤_, _<_};
+ghost use Prim.Native.Nat.{_+_};
 ghost use lib.ListN.{length};
 ghost use Rattle.rows.specs.Steps.{Filled, Sized, Roomy, Past};
 use filter::grid::Grid;

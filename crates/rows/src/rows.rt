@@ -4,7 +4,6 @@ ghost use Prim.Native.Nat.{_+_, _≤_, _<_};
 ghost use lib.ListN.{length};
 ghost use Rattle.filter.specs.Group.{mirrors};
 ghost use Rattle.filter.specs.Planes.{mirrorsOf};
-ghost use Rattle.filter.specs.Build.{rowsRefusal};
 ghost use Rattle.weights.specs.Steps.{Ready};
 ghost use Rattle.rows.specs.Steps.{Clean, Filled};
 use filter::grid::Grid;

@@ -1,5 +1,5 @@
 -- 01, "The rounds": the design after an update, at one rate. Definitions only.
-use Prim.Native.Nat.{ℕ, min}
+use Prim.Native.Nat.{min}
 use mathlib.Core.Bool.{Bool, false, not}
 use mathlib.Core.List.{List}
 use lib.ListN.{length, getD}

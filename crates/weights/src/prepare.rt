@@ -1,6 +1,6 @@
 // What the rows go by, made once: the cubes, the filing by cubes, the middles in its order.
 ghost use mathlib.Core.Path.{_≡_};
-ghost use Prim.Native.Nat.{_+_, _≤_, _<_};
+ghost use Prim.Native.Nat.{_+_, _<_};
 ghost use lib.ListN.{length};
 ghost use Rattle.weights.specs.Steps.{Prepared};
 use geom::Vec3;

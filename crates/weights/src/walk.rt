@@ -1,11 +1,8 @@
 // The elements near a point: the columns of cubes about it, each a run of positions, the squared distance first.
 ghost use mathlib.Core.Path.{_≡_};
-ghost use mathlib.Core.Bool.{_&&_};
-ghost use mathlib.Core.List.{[]};
 ghost use Prim.Native.Nat.{_+_, _^_, _≤_, _<_};
 ghost use lib.ListN.{length, getD};
 ghost use Rattle.geom.specs.Vectors as Vectors;
-ghost use Rattle.cells.specs.Cells.{boxCell, inBox, axis};
 ghost use Rattle.filter.specs.Group.{point};
 ghost use Rattle.filter.specs.Filter.{counts};
 ghost use Rattle.filter.specs.Steps.{Settles};

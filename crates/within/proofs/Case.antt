@@ -14,7 +14,7 @@ use Rattle.ieee.specs.Whole.{floorAt}
 use Rattle.geom.specs.Vectors.{two64, least, greatest, less, dot, len2, len, dist}
 use Rattle.cells.specs.Cells.{cellAt, nearby, nearCell}
 use Rattle.filter.specs.Group.{imageIn}
-use Rattle.filter.specs.Filter.{middle, outside, nearCubes, counts, met, columns, start, neighbours, coefficients, lowest, highest}
+use Rattle.filter.specs.Filter.{middle, outside, nearCubes, met, columns, start, neighbours, coefficients, lowest, highest}
 use Rattle.weights.proofs.Chosen.{chosen-rising}
 
 -- (0, 0, 0), (1, 0, 0) and (2, 0, 0), volumes 1

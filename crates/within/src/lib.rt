@@ -1,6 +1,5 @@
 // filter.rs, `Filter::within`: the table built into three lent lists, or the number of 01's refusal.
 ghost use mathlib.Core.Path.{_≡_};
-ghost use mathlib.Core.List.{[], _∷_};
 ghost use Prim.Native.Nat.{_<_};
 ghost use lib.ListN.{length, replicate};
 ghost use Rattle.lists.specs.Lists.{zero64};

@@ -1,7 +1,6 @@
 -- `mesh::volume` meets its contract: the rule over the nodes that `nodes_of` promises. Assumes nothing.
 use mathlib.Core.Path.{ap, _∙_}
 use Rattle.ieee.specs.Basic.{absOf}
-use Rattle.mesh.specs.declared.Ten.{Ten}
 use Rattle.mesh.specs.Mesh.{ruleOf, volumeOf}
 use borrow.Author.Needs.{needs}
 use Rattle.mesh.proofs.volume.Statement.{statement}

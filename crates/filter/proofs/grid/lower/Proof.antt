@@ -1,11 +1,10 @@
 -- `filter::grid::lower` meets its contract. The invariant: the corner of the middles passed. Assumes nothing.
 use borrow.Author.Needs.{needs}
 use mathlib.Core.Path.{_≡_, sym, ap, _∙_}
-use mathlib.Core.List.{[]}
 use Prim.Native.Nat.{_-_, _≤_}
 use native.Mathlib.Nat.{le-antisymm}
 use native.Mathlib.Omega.{arith}
-use lib.ListN.{length, getD}
+use lib.ListN.{length}
 use denote.Ref.{now}
 use Rattle.lists.specs.Lists.{foldOver}
 use Rattle.lists.proofs.Laws.{foldOver-none, foldOver-more}

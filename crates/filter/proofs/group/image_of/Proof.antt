@@ -1,7 +1,5 @@
 -- `filter::group::image_of` meets its contract: three reflections, those of planes that are there and in the member. Assumes nothing.
-use Rattle.geom.specs.Vectors.{image}
-use Rattle.geom.specs.declared.Vec3.{Vec3}
-use mathlib.Core.Path.{ap, _∙_}
+use mathlib.Core.Path.{_∙_}
 use Rattle.filter.proofs.Images.{three-images}
 use borrow.Author.Needs.{needs}
 use Rattle.filter.proofs.group.image_of.Statement.{statement}

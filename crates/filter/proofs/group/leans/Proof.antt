@@ -1,10 +1,10 @@
 -- `filter::group::leans` meets its contract. The invariant: the flag says whether a plane passed is not square to plane j. Assumes nothing.
 use borrow.Author.Needs.{needs}
-use mathlib.Core.Path.{_≡_, sym, ap}
+use mathlib.Core.Path.{_≡_, sym}
 use mathlib.Core.List.{[]}
 use Prim.Native.Nat.{_-_, _≤_}
 use native.Mathlib.Nat.{le-antisymm}
-use lib.ListN.{length, getD}
+use lib.ListN.{getD}
 use Rattle.lists.specs.Lists.{anyTo}
 use Rattle.lists.proofs.Laws.{any-none, any-step}
 use Rattle.filter.specs.Group.{unit, plane, skew, skewBefore}

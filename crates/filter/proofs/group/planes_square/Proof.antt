@@ -1,7 +1,6 @@
 -- `filter::group::planes_square` meets its contract. The invariant: the flag says whether a plane passed leans. Assumes nothing.
 use borrow.Author.Needs.{needs}
-use mathlib.Core.Path.{_≡_, sym, ap}
-use mathlib.Core.Bool.{not}
+use mathlib.Core.Path.{_≡_, sym}
 use Prim.Native.Nat.{_-_, _≤_}
 use native.Mathlib.Nat.{le-antisymm}
 use lib.ListN.{length}

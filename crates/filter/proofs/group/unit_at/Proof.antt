@@ -1,8 +1,6 @@
 -- `filter::group::unit_at` meets its contract: the plane is there, or past the end. Assumes nothing.
 use denote.Ref.{now}
 use mathlib.Core.Path.{sym, _∙_}
-use lib.ListN.{length, getD, List·getD-eq-default}
-use native.Mathlib.Omega.{arith}
 use Rattle.filter.proofs.Images.{mirror-at, mirror-past}
 use borrow.Author.Needs.{needs}
 use Rattle.filter.proofs.group.unit_at.Statement.{statement}

@@ -1,7 +1,5 @@
 -- `filter::group::unit_of` meets its contract by the calls' promises. Assumes nothing.
-use mathlib.Core.Path.{ap, _∙_}
 use Rattle.geom.specs.Vectors.{normalized}
-use Rattle.geom.specs.declared.Mirror.{Mirror}
 use Rattle.filter.specs.Group.{unit}
 use borrow.Author.Needs.{needs}
 use Rattle.filter.proofs.group.unit_of.Statement.{statement}

@@ -1,6 +1,5 @@
 -- `runs::run` is safe and ends: the measure is the number of turns that are left, and the lists keep their lengths. Assumes nothing.
 use mathlib.Core.Path.{_≡_}
-use native.Mathlib.Omega.{arith}
 use Prim.Native.Nat.{_-_}
 use lib.ListN.{length}
 use borrow.Author.Needs.{needs}

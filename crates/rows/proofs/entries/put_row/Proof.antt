@@ -1,7 +1,7 @@
 -- `rows::entries::put_row` meets its contract. The invariant: the places passed are written and their weights cleared; a weight not yet passed is as lent. Assumes nothing.
 use Rattle.rows.proofs.Writes.{written-none, written-more, cleared-none, cleared-more, cleared-next}
 use borrow.Author.Needs.{needs}
-use mathlib.Core.Path.{_≡_, refl, sym, ap, _∙_}
+use mathlib.Core.Path.{_≡_, refl, ap, _∙_}
 use Prim.Native.Nat.{ℕ, _+_, _-_, _≤_, _<_}
 use native.Mathlib.Nat.{le-antisymm}
 use native.Mathlib.Omega.{arith}

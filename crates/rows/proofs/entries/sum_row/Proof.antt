@@ -1,7 +1,7 @@
 -- `rows::entries::sum_row` meets its contract. The invariant: what is added up is the sum of the places passed. Assumes nothing.
 use denote.Ref.{now}
 use borrow.Author.Needs.{needs}
-use mathlib.Core.Path.{_≡_, sym, ap, _∙_}
+use mathlib.Core.Path.{_≡_, sym}
 use Prim.Native.Nat.{_-_, _≤_, _<_}
 use native.Mathlib.Nat.{le-antisymm}
 use native.Mathlib.Omega.{arith}

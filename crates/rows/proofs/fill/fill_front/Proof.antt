@@ -1,7 +1,6 @@
 -- `rows::fill::fill_front` meets its contract: the front of each working list is lent, so the places past it stay. Assumes nothing.
-use mathlib.Core.Path.{_≡_, sym, _∙_}
+use mathlib.Core.Path.{sym, _∙_}
 use Prim.Native.Nat.{_+_}
-use native.Mathlib.Omega.{arith}
 use lib.ListN.{length, drop}
 use lib.Seq.{length-take-le, drop-at}
 use denote.Ref.{now}

@@ -1,5 +1,5 @@
 -- `rows::fill::fill_table` meets its contract: what is prepared makes the rows' premises. Assumes nothing.
-use mathlib.Core.Path.{_≡_, sym, _∙_}
+use mathlib.Core.Path.{_∙_}
 use native.Mathlib.Omega.{arith}
 use lib.ListN.{length}
 use denote.Ref.{now}

@@ -1,11 +1,8 @@
 -- `rows::row::settle` meets its contract: the marked elements rise, so they are within the lists and apart. Assumes nothing.
-use mathlib.Core.Logic.{⊎-elim}
-use Rattle.weights.specs.Steps.{Within, Rising}
-use Rattle.rows.specs.Steps.{Apart, roomRefusal}
 use Rattle.weights.proofs.Chosen.{within-found}
 use Rattle.rows.proofs.Room.{has-room}
-use mathlib.Core.Path.{_≡_, refl, sym, ap, _∙_}
-use Prim.Native.Nat.{ℕ, _+_, _≤_, _<_, _^_}
+use mathlib.Core.Path.{refl, sym, _∙_}
+use Prim.Native.Nat.{_+_, _≤_}
 use native.Mathlib.Omega.{arith}
 use lib.ListN.{length}
 use denote.Ref.{now}

@@ -1,13 +1,12 @@
 -- `rows::zero::words` meets its contract. The invariant: the places passed are zero. Assumes nothing.
 use borrow.Author.Needs.{needs}
 use mathlib.Core.Path.{_≡_, refl, sym, ap, _∙_}
-use mathlib.Core.List.{List, [], _∷_}
 use Prim.Native.Nat.{ℕ, _-_, _≤_}
 use native.Mathlib.Nat.{le-antisymm}
 use native.Mathlib.Omega.{arith}
 use lib.ListN.{length, length-set}
 use denote.Ref.{now}
-use Rattle.lists.specs.Lists.{overwrite, zero64}
+use Rattle.lists.specs.Lists.{overwrite}
 use Rattle.lists.proofs.Laws.{overwrite-none, overwrite-more}
 use Rattle.rows.proofs.Writes.{overwrite-all}
 use Rattle.rows.proofs.zero.words.Statement.{statement}

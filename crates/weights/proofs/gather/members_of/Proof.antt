@@ -1,6 +1,5 @@
 -- `weights::gather::members_of` meets its contract, case by case. Assumes nothing.
-use mathlib.Core.Path.{_≡_, sym, ap}
-use Prim.Native.Nat.{_^_}
+use mathlib.Core.Path.{_≡_}
 use native.Mathlib.Omega.{arith}
 use Rattle.weights.proofs.gather.members_of.Statement.{statement}
 use Rattle.weights.proofs.gather.members_of.Tie as tie

@@ -1,13 +1,8 @@
 -- `weights::prepare::file_all` meets its contract: the calls' promises, put together. Assumes nothing.
-use mathlib.Core.Path.{_≡_, sym, ap, _∙_}
-use Prim.Native.Nat.{ℕ, min}
-use mathlib.Core.List.{List, []}
+use mathlib.Core.Path.{_≡_, _∙_}
 use native.Mathlib.Omega.{arith}
-use lib.ListN.{length, getD}
+use lib.ListN.{length}
 use denote.Ref.{now}
-use Rattle.lists.specs.Lists.{overwrite}
-use Rattle.lists.proofs.Laws.{length-overwrite}
-use Rattle.cells.specs.Cells.{cellOf}
 use Rattle.weights.proofs.Preparing.{prepared}
 use borrow.Author.Needs.{needs}
 use Rattle.weights.proofs.prepare.file_all.Statement.{statement}

@@ -1,6 +1,5 @@
 -- `weights::walk::column` meets its contract. The invariant: the positions passed are looked at, which is the walk of `cells`. Assumes nothing.
 use Rattle.weights.proofs.Walking.{Strode, stride-none, stride-more, stride-done, looked-lists}
-use borrow.Author.Needs.{needs}
 use mathlib.Core.Path.{_≡_, refl, sym, _∙_}
 use Prim.Native.Nat.{_-_, _≤_, _<_}
 use native.Mathlib.Nat.{le-antisymm}

@@ -1,5 +1,5 @@
 -- `weights::walk::look` meets its contract: the limit settles what is far, the cube and the root the rest. Assumes nothing.
-use mathlib.Core.Path.{_≡_, refl, sym, ap, _∙_}
+use mathlib.Core.Path.{_≡_, sym, ap, _∙_}
 use mathlib.Core.Bool.{Bool, false, _&&_}
 use Prim.Native.Nat.{ℕ, _+_}
 use mathlib.Core.List.{[]}
