@@ -515,7 +515,8 @@ double sokdrib_grey(const double *density, size_t density_len, const double *fre
 
 /* Opens a run on a state with none open: the solid part is asked for, or the refusal's number is told. room is how many records the history has room
  * for; the opening writes none. 1 to 12, 20, and 14 before the first row, leave all lists as before; 13 and 14 at a row leave the filter's lists and the
- * working lists (cell and those after it) zero throughout, and 15, by the flag, the finished filter and the working lists zero. The fresh state is all zero. */
+ * working lists (cell and those after it) zero throughout, and 15, by the flag, the finished filter and the working lists zero. The fresh state is all zero; a
+ * phase above 2 is refused with 20. */
 SokdribRunTold sokdrib_open(
     size_t room,
     SokdribRunState state,
@@ -565,7 +566,7 @@ SokdribRunTold sokdrib_open(
 /* The solver's answer to the last question: said is 0 where it gave the energies, 1 where it failed, any other number where it stopped; then whether the run
  * is to stop, and the milliseconds elapsed and allowed. The filter's lists, the design and both densities are those that the last call left. The record that
  * is told is to be put at its place of the history, which has room for so many records; where the place is past that there is none. free and the
- * lists after it are for the call's own use. */
+ * lists after it are for the call's own use. A phase above 2 is refused with 20. */
 SokdribRunStep sokdrib_answer(
     size_t room,
     SokdribRunState state,

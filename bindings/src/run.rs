@@ -1,6 +1,7 @@
 //! A run: the loop of `optimize` as questions and answers. It is opened, and then each question is answered, until it stops.
 //!
 //! State and lists are the caller's, and each call is to get them as the last one left them. [`State::default`] is the fresh state, with no run open.
+//! A state whose phase is above 2 is no run's: both calls refuse it with 20 and leave it and all lists as before.
 use crate::filter::Work;
 use crate::{Refused, ffi};
 pub use ffi::{RunRecord as Iteration, RunState as State};

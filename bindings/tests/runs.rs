@@ -6,7 +6,7 @@ use sokdrib::run::{Answer, Goal, Iteration, Lists, Part, Reply, Said, Scratch, S
 const PART: Part<'static> = Part { volumes: &[1.0, 1.0], centroids: &[[0.0; 3], [10.0, 0.0, 0.0]], passive: &[true, false], mirrors: &[] };
 const GOAL: Goal = Goal { fraction: 0.75, radius: 1.0, sharpen: false, max_iterations: 1 };
 
-#[derive(Default)]
+#[derive(Clone, Debug, Default, PartialEq)]
 struct Held {
     starts: [u32; 3],
     near: [u32; 2],
@@ -65,4 +65,23 @@ fn answers_that_end_a_run() {
         assert_eq!(answer(&mut state, said, PART, held.lend(1), &mut scratch), Err(Refused(number)));
         assert_eq!(answer(&mut state, said, PART, held.lend(1), &mut scratch), Err(Refused(20)));
     }
+}
+
+#[test]
+fn phases_that_no_run_has() {
+    let (mut state, mut held, mut work, mut scratch) = (State::default(), Held::default(), Work::of(2), Scratch::of(2));
+    let gave = Answer { said: Said::Gave(&[0.5, 0.0]), flag: false, elapsed: 0, allowed: 1 };
+    for opened in [false, true] {
+        if opened {
+            assert_eq!(open(&mut state, PART, GOAL, false, held.lend(1), &mut work), Ok(Reply::Solid));
+        }
+        for phase in [3, u32::MAX] {
+            let before = (State { phase, ..state }, held.clone(), work.clone(), scratch.clone());
+            let mut spoiled = before.0;
+            assert_eq!(open(&mut spoiled, PART, GOAL, false, held.lend(1), &mut work), Err(Refused(20)));
+            assert_eq!(answer(&mut spoiled, gave, PART, held.lend(1), &mut scratch), Err(Refused(20)));
+            assert_eq!((spoiled, held.clone(), work.clone(), scratch.clone()), before);
+        }
+    }
+    assert_eq!(answer(&mut state, gave, PART, held.lend(1), &mut scratch), Ok(Reply::Round(1)));
 }

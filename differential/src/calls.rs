@@ -245,7 +245,8 @@ enum Aside {
     Broken(usize),
 }
 
-/// An opening with its lists, and what the caller does; after its end the run is answered once more, and opened again.
+/// An opening with its lists, and what the caller does; after its end the run is answered once more, and opened again. Each opening is tried first on a
+/// state whose phase is no run's.
 #[derive(Clone)]
 struct Script {
     job: Job,
@@ -337,7 +338,7 @@ impl Script {
         let aside = |g: &mut Gen| match g.below(12) {
             0 => Aside::Open,
             1 => Aside::Short(g.below(14)),
-            2 => Aside::Broken(g.below(8)),
+            2 => Aside::Broken(g.below(BROKEN)),
             _ => Aside::Nothing,
         };
         Script { asides: (0..20).map(|_| aside(g)).collect(), job, room, spare, entries }
@@ -387,12 +388,13 @@ impl Script {
         for again in [false, true] {
             let mut opening = self.job.opening.clone();
             opening.flag &= !again;
-            let mut asked = side.open(self, &opening, &self.room);
+            side.open(self, &opening, &self.room, Some(UNKNOWN));
+            let mut asked = side.open(self, &opening, &self.room, None);
             let mut q = 0;
             while let Some(density) = asked {
                 match self.asides[(q + usize::from(again)) % self.asides.len()] {
                     Aside::Nothing => {}
-                    Aside::Open => drop(side.open(self, &opening, &self.room)),
+                    Aside::Open => drop(side.open(self, &opening, &self.room, None)),
                     Aside::Short(k) => drop(side.answer(self, &Answer { room: self.answer_room(Some(k)), ..nothing.clone() }, None)),
                     Aside::Broken(k) => drop(side.answer(self, &nothing, Some(k))),
                 }
@@ -457,7 +459,7 @@ fn many() -> Vec<Script> {
 
 /// One side of the comparison: gives the densities of the question that is put, if one is.
 trait Side {
-    fn open(&mut self, s: &Script, o: &Opening, room: &Room) -> Option<Vec<f64>>;
+    fn open(&mut self, s: &Script, o: &Opening, room: &Room, broken: Option<usize>) -> Option<Vec<f64>>;
     fn answer(&mut self, s: &Script, a: &Answer, broken: Option<usize>) -> Option<Vec<f64>>;
 }
 
@@ -487,8 +489,8 @@ fn laid<T: Clone>(new: &[T], list: &mut [T]) {
 }
 
 impl Side for Theirs {
-    fn open(&mut self, _: &Script, o: &Opening, room: &Room) -> Option<Vec<f64>> {
-        if self.run.as_ref().is_some_and(|r| r.part != Asked::Nothing) {
+    fn open(&mut self, _: &Script, o: &Opening, room: &Room, broken: Option<usize>) -> Option<Vec<f64>> {
+        if broken.is_some() || self.run.as_ref().is_some_and(|r| r.part != Asked::Nothing) {
             return self.note(&Reply::Refused(20), true);
         }
         let (opened, reply, effect) = Plain::open(o, room);
@@ -579,6 +581,11 @@ impl Ours {
     }
 }
 
+/// How many ways there are to break a state.
+const BROKEN: usize = 10;
+/// From this one on the phase is no run's, which an opening refuses too.
+const UNKNOWN: usize = 8;
+
 /// A state whose numbers fail the test, made of one that passes.
 fn broken(s: &State, how: usize) -> State {
     match how {
@@ -589,7 +596,9 @@ fn broken(s: &State, how: usize) -> State {
         4 => State { phase: 1, rounds: 1, ..*s },
         5 => State { phase: 2, rounds: s.max_iterations, ..*s },
         6 => State { stage: usize::MAX, ..*s },
-        _ => State { phase: 2, rounds: usize::MAX, ..*s },
+        7 => State { phase: 2, rounds: usize::MAX, ..*s },
+        UNKNOWN => State { phase: 3, ..*s },
+        _ => State { phase: u32::MAX, ..*s },
     }
 }
 
@@ -600,8 +609,9 @@ fn same(a: &State, b: &State) -> bool {
 }
 
 impl Side for Ours {
-    fn open(&mut self, _: &Script, o: &Opening, room: &Room) -> Option<Vec<f64>> {
-        let before = self.state;
+    fn open(&mut self, _: &Script, o: &Opening, room: &Room, how: Option<usize>) -> Option<Vec<f64>> {
+        let mut state = how.map_or(self.state, |how| broken(&self.state, how));
+        let before = state;
         let [cell, order, first, sorted, stamp, weight, found, bits] = room.opening;
         // Lists lent too short are parts of the same lists.
         let mut all = std::mem::take(&mut self.memory.work);
@@ -616,7 +626,7 @@ impl Side for Ours {
             bits: all.bits[..bits].to_vec(),
         };
         let (lists, _, _) = self.memory.lists(room);
-        let reply = run::open(&mut self.state, part(o), goal(o), o.flag, lists, &mut work);
+        let reply = run::open(&mut state, part(o), goal(o), o.flag, lists, &mut work);
         laid(&work.cell, &mut all.cell);
         laid(&work.order, &mut all.order);
         laid(&work.first, &mut all.first);
@@ -629,7 +639,10 @@ impl Side for Ours {
         if reply.is_ok() {
             self.memory.refill_work(o.volumes.len());
         }
-        let kept = same(&before, &self.state);
+        let kept = same(&before, &state);
+        if how.is_none() {
+            self.state = state;
+        }
         let asked = self.note(reply, kept, o.volumes.len());
         if reply != Err(Refused(20)) {
             self.log.push(u64::from(reply.is_err() && self.state.phase != 0));
@@ -697,7 +710,7 @@ mod tests {
             }
         }
         let openings = [1, 2, 4, 5, 6, 7, 8, 9, 10, 11, 12, 14, 15].map(|k| format!("opening {k}"));
-        let asides = (0..14).map(|k| format!("short {k}")).chain((0..8).map(|k| format!("broken {k}")));
+        let asides = (0..14).map(|k| format!("short {k}")).chain((0..BROKEN).map(|k| format!("broken {k}")));
         for what in openings.into_iter().chain(asides).chain(["opened again".into()]) {
             assert!(seen.get(&what).is_some_and(|n| *n >= 10), "{what}: {seen:?}");
         }

@@ -1,5 +1,5 @@
 -- What the numbers stand for. 01: "For an answer that is an enum, a definition gives this paper's number and values for each case." Definitions only.
-use Prim.Native.Nat.{ℕ}
+use Prim.Native.Nat.{ℕ, _<_, _≤_}
 use mathlib.Core.Path.{_≡_}
 use lib.Dec.{eqb}
 use Rattle.lists.specs.Lists.{choose}
@@ -23,7 +23,7 @@ use Rattle.flat.specs.declared.RunTold.{RunTold}
 use Rattle.flat.specs.declared.RunRecord.{RunRecord}
 use Rattle.flat.specs.declared.RunStep.{RunStep}
 
--- 0: no run is open. 1: the solid part is asked for. Else: a round is
+-- 0: no run is open. 1: the solid part is asked for. 2: a round is
 unfoldable pub phaseOf : ℕ → Phase
 phaseOf n = choose (eqb n 0) Idle (choose (eqb n 1) Solid Round)
 
@@ -71,13 +71,26 @@ recordNumbers i = record { number = i .number; compliance = i .compliance; fract
 unfoldable pub stepNumbers : Step → RunStep
 stepNumbers s = record { told = toldNumbers (s .told); at = s .at; entry = recordNumbers (s .entry) }
 
+-- 20 with the state as it came
+abbrev pub refused20 : RunState → RunTold
+refused20 s = record { state = s; reply = 0; number = 20 }
+
 -- an opening's numbers are those of what `Opened` says of it, and an answer's of what `Answers` says
-pub record OpenedAs (s : RunState) (g : Asked) (room : ℕ) (l : Core) (w : OpenWork) (r : RunTold) (o : Core) (w′ : OpenWork) : Type 0 where
+pub record OpenedIn (s : RunState) (g : Asked) (room : ℕ) (l : Core) (w : OpenWork) (r : RunTold) (o : Core) (w′ : OpenWork) : Type 0 where
   pub told : Told
   pub numbers : r ≡ toldNumbers told
   pub opens : Opened (stateOf s) g room l w told o w′
 
-pub record AnsweredAs (s : RunState) (a : Given) (room : ℕ) (l : Core) (w : Work) (r : RunStep) (o : Core) (w′ : Work) : Type 0 where
+pub record AnsweredIn (s : RunState) (a : Given) (room : ℕ) (l : Core) (w : Work) (r : RunStep) (o : Core) (w′ : Work) : Type 0 where
   pub step : Step
   pub numbers : r ≡ stepNumbers step
   pub answers : Answers (stateOf s) a room l w step o w′
+
+-- with a phase above 2, which no run has: 20, kept. An answer's record is then free, its place past the history's end
+pub record OpenedAs (s : RunState) (g : Asked) (room : ℕ) (l : Core) (w : OpenWork) (r : RunTold) (o : Core) (w′ : OpenWork) : Type 0 where
+  pub known : s .phase ≤ 2 → OpenedIn s g room l w r o w′
+  pub unknown : 2 < s .phase → (r ≡ refused20 s) × (o ≡ l) × (w′ ≡ w)
+
+pub record AnsweredAs (s : RunState) (a : Given) (room : ℕ) (l : Core) (w : Work) (r : RunStep) (o : Core) (w′ : Work) : Type 0 where
+  pub known : s .phase ≤ 2 → AnsweredIn s a room l w r o w′
+  pub unknown : 2 < s .phase → (r .told ≡ refused20 s) × (r .at ≡ room) × (o ≡ l) × (w′ ≡ w)

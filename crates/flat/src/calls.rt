@@ -40,6 +40,9 @@ pub fn open(
         (record { volumes = now (volumes .entry); passive = now (passive .entry); starts = now (starts .exit); near = now (near .exit); coef = now (coef .exit); design = now (design .exit); density = now (density .exit); last = now (last .entry) })
         (record { cell = now (cell .exit); order = now (order .exit); first = now (first .exit); sorted = now (sorted .exit); stamp = now (stamp .exit); weight = now (weight .exit); found = now (found .exit); bits = now (bits .exit) }) ⌝ }
 {
+    if crate::unknown(state) {
+        return crate::refused(state);
+    }
     let goal = Goal {
         fraction,
         radius,
@@ -103,6 +106,9 @@ pub fn answer(
         (record { volumes = now (volumes .entry); passive = now (passive .entry); starts = now (starts .entry); near = now (near .entry); coef = now (coef .entry); design = now (design .exit); density = now (density .exit); last = now (last .exit) })
         (record { free = now (free .exit); slope = now (slope .exit); spare = now (spare .exit); dc = now (dc .exit); dv = now (dv .exit) }) ⌝ }
 {
+    if crate::unknown(state) {
+        return crate::unrecorded(room, state);
+    }
     let said = crate::said_of(said);
     let s = answering::take(
         room,

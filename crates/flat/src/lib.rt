@@ -2,6 +2,7 @@
 pub mod calls;
 
 ghost use mathlib.Core.Path.{_≡_};
+ghost use lib.Dec.{ltb};
 ghost use Rattle.flat.specs.Flat as Flat;
 use answering::Step;
 use answering::Told;
@@ -12,7 +13,7 @@ use plain::State;
 use topo::Iteration;
 use topo::Stop;
 
-// A run as it stands between two calls. Phase 0: no run is open. 1: the solid part is asked for. 2: a round is. Any other number counts as 2.
+// A run as it stands between two calls. Phase 0: no run is open. 1: the solid part is asked for. 2: a round is. Any other number is no run's.
 #[repr(C)]
 pub struct RunState {
     pub phase: u32,
@@ -197,5 +198,42 @@ fn step_numbers(s: Step) -> RunStep
         told: told_numbers(s.told),
         at: s.at,
         entry: record_numbers(s.entry),
+    }
+}
+
+// A phase that no run has.
+fn unknown(s: RunState) -> bool
+    ensures { λ r. ⌜ r ≡ ltb 2 (s .phase) ⌝ }
+{
+    s.phase > 2
+}
+
+// Then 20, and the state as it came.
+fn refused(s: RunState) -> RunTold
+    ensures { λ r. ⌜ r ≡ Flat.refused20 s ⌝ }
+{
+    RunTold {
+        state: s,
+        reply: 0,
+        number: 20,
+    }
+}
+
+// The same for an answer, which makes no record: `room` is past the history's end.
+fn unrecorded(room: usize, s: RunState) -> RunStep
+    ensures { λ r. ⌜ (r .told ≡ Flat.refused20 s) × (r .at ≡ room) ⌝ }
+{
+    RunStep {
+        told: refused(s),
+        at: room,
+        entry: RunRecord {
+            number: 0,
+            compliance: 0.0,
+            fraction: 0.0,
+            change: 0.0,
+            sharpness: 0.0,
+            grey: 0.0,
+            passes: 0,
+        },
     }
 }

@@ -1,8 +1,17 @@
--- `open` meets its contract: that of `take`, with the state by its numbers. Assumes nothing.
-use Rattle.flat.proofs.Laws.{opened-as}
+-- `open` meets its contract: that of `take`, with the state by its numbers, after the test of the phase. Assumes nothing.
+use Rattle.flat.proofs.Laws.{opened-as, not-opened}
 use borrow.Author.Needs.{needs}
 use Rattle.flat.proofs.calls.open.Statement.{statement}
 use Rattle.flat.proofs.calls.open.Tie as tie
+
+unknown-requires : tie.Need-unknown-requires
+unknown-requires c κs = search needs
+
+refused-requires : tie.Need-refused-requires
+refused-requires c κs = search needs
+
+returns : tie.Need-returns
+returns c = not-opened _ _ (c .before .before .unknown .ensures) (c .before .if1 .taken) _ _ _ _ _ (c .refused .ensures)
 
 state-of-requires : tie.Need-state-of-requires
 state-of-requires c κs = search needs
@@ -52,14 +61,19 @@ same-length-12 c = search needs
 same-length-13 : tie.Need-same-length-13
 same-length-13 c = search needs
 
-returns : tie.Need-returns
-returns c =
-    opened-as _ _ (c .before .before .before .before .before .before .before .before .before .before .before .before .before .before .before .before .before .before .before .before .before .before .before .before .before .before .before .before .before .before .before .before .before .before .before .before .before .before .before .state-of .ensures) _ _ _ _ _ _ _ _ (c .told-numbers .ensures) (c .before .before .before .before .before .before .before .before .before .before .before .before .before .before .before .before .before .before .before .before .before .before .before .before .before .take .ensures)
+returns-2 : tie.Need-returns-2
+returns-2 c =
+    let t = c .before .before .before .before .before .before .before .before .before .before .before .before .before .before .before .before .before .before .before .before .before .before .before .before .before in
+    let s = t .before .before .before .before .before .before .before .before .before .before .before .before .before .before in
+    opened-as _ _ (s .before .before .unknown .ensures) (s .before .if1 .left) _ (s .state-of .ensures) _ _ _ _ _ _ _ _ (c .told-numbers .ensures) (t .take .ensures)
 
 pub open-spec : {M : Type 1} → statement M
 open-spec =
     tie.close
     (tie.spec
+    unknown-requires
+    refused-requires
+    returns
     state-of-requires
     take-requires
     told-numbers-requires
@@ -76,4 +90,4 @@ open-spec =
     same-length-11
     same-length-12
     same-length-13
-    returns)
+    returns-2)
