@@ -8,7 +8,7 @@ use lib.ListN.{length, take, set}
 use lib.Seq.{take-all, length-take-le, set-out}
 use lib.Ieee.{Float}
 use borrow.Author.Tests.{ltb-false, eqb-true, not-false}
-use Rattle.lists.specs.Lists.{choose}
+use Rattle.lists.specs.Lists.{choose, overlay}
 use Rattle.lists.proofs.Laws.{neither}
 use Rattle.topo.specs.declared.Iteration.{Iteration}
 use Rattle.topo.specs.declared.Stop.{Stop}
@@ -23,7 +23,7 @@ use Rattle.plain.specs.declared.Verdict.{Verdict}
 use Rattle.plain.specs.declared.Verdict.the-variants.{Kept, Over, Halts, Begins, Solves}
 use Rattle.plain.specs.declared.Course.{Course}
 use Rattle.plain.specs.declared.Course.the-variants.{Onward, Ends}
-use Rattle.plain.specs.Lent.{overlay, short, answerWork, runShort, answerShort}
+use Rattle.plain.specs.Lent.{short, answerWork, runShort, answerShort}
 use Rattle.plain.specs.Formulas.{sharpness, see}
 use Rattle.plain.specs.Plain.{judged, firstStop}
 use Rattle.plain.specs.Runs.{Sane}

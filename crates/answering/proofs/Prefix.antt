@@ -7,7 +7,7 @@ use native.Mathlib.Omega.{arith}
 use lib.ListN.{length, take, drop, length-append, length-drop}
 use lib.Seq.{length-take-le}
 use lib.Ieee.{Float}
-use Rattle.plain.specs.Lent.{overlay}
+use Rattle.lists.specs.Lists.{overlay}
 use Rattle.answering.specs.Answers.{Scratched}
 
 module _ {A : Type 0} where

@@ -5,11 +5,12 @@ use mathlib.Core.List.{List, [], _∷_}
 use Prim.Native.Nat.{ℕ, suc, _≤_}
 use lib.ListN.{length, take, drop, set}
 use lib.Ieee.{Float}
+use Rattle.lists.specs.Lists.{overlay}
 use Rattle.topo.specs.declared.Iteration.{Iteration}
 use Rattle.plain.specs.declared.State.{State}
 use Rattle.plain.specs.declared.Verdict.{Verdict}
 use Rattle.plain.specs.declared.Verdict.the-variants.{Kept, Over, Halts, Begins, Solves}
-use Rattle.plain.specs.Lent.{overlay, Sizes}
+use Rattle.plain.specs.Lent.{Sizes}
 use Rattle.plain.specs.Formulas.{Case, updateAt, recordAt}
 use Rattle.plain.specs.Plain.{judged}
 use Rattle.plain.specs.Calls.{Lists, Told, Result, steepAt, partOf, checksAt, answerOf}

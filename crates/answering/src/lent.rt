@@ -2,10 +2,9 @@
 ghost use mathlib.Core.Path.{_≡_};
 ghost use Prim.Native.Nat.{suc, _<_};
 ghost use lib.ListN.{take};
-ghost use Rattle.lists.specs.Lists.{choose};
+ghost use Rattle.lists.specs.Lists.{choose, overlay};
 ghost use Rattle.oc.specs.Seen.{seenDensity};
 ghost use Rattle.oc.specs.declared.seen.Sharpness.the-variants.{Off, At};
-ghost use Rattle.plain.specs.Lent.{overlay};
 ghost use Rattle.plain.specs.Formulas.{sharpness};
 ghost use Rattle.plain.specs.Calls.{steepAt};
 ghost use Rattle.answering.specs.Answers.{Asks, Enough, Scratched, Solved};

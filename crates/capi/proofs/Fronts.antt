@@ -8,8 +8,9 @@ use lib.ListN.{length, take, drop}
 use lib.Seq.{length-take-le, length-front, drop-at}
 use lib.Dec.{eqb, ltb}
 use borrow.Author.Tests.{eqb-true, ltb-false, not-false}
+use Rattle.lists.specs.Lists.{overlay}
 use Rattle.lists.proofs.Laws.{passes-on, neither}
-use Rattle.capi.specs.Lent.{refusalOf, unless, laid, left, Used}
+use Rattle.capi.specs.Lent.{refusalOf, unless, left, Used}
 
 pub accepted : (number : ℕ) (differ short : Bool) → number ≡ refusalOf differ short → number ≡ 0 → (differ ≡ false) × (short ≡ false)
 accepted number differ short e z =
@@ -46,7 +47,7 @@ unless-accepted number a b z = rw z
 module _ {A : Type 0} where
   -- lists of a call that is refused
   pub kept : (number : ℕ) (new l : List A) → (number ≡ 0 → ⊥) → l ≡ left number new l
-  kept number new l e = unless-refused number (laid new l) l e
+  kept number new l e = unless-refused number (overlay new l) l e
 
   pub not-used : (number n : ℕ) (l : List A) → (number ≡ 0 → ⊥) → Used number n l l
   unfolding Used
@@ -55,10 +56,10 @@ module _ {A : Type 0} where
 
   -- a front part that is written, and one that is used
   pub written : (number n : ℕ) (new part l : List A) → number ≡ 0 → n ≤ length l → length part ≡ length (take n l) → part ≡ new → part ++ drop n l ≡ left number new l
-  unfolding laid
+  unfolding overlay
   written number n new part l z h e w =
-      let same : part ++ drop n l ≡ laid new l = rw (sym w, e, length-take-le n l h) in
-      same ∙ unless-accepted number (laid new l) l z
+      let same : part ++ drop n l ≡ overlay new l = rw (sym w, e, length-take-le n l h) in
+      same ∙ unless-accepted number (overlay new l) l z
 
   pub used : (number n : ℕ) (part l : List A) → number ≡ 0 → n ≤ length l → length part ≡ length (take n l) → Used number n l (part ++ drop n l)
   unfolding Used

@@ -1,10 +1,10 @@
 -- What a call refuses its lists for, and what it leaves in them. Definitions only.
 use mathlib.Core.Path.{_≡_}
 use mathlib.Core.Bool.{Bool}
-use mathlib.Core.List.{List, _++_}
+use mathlib.Core.List.{List}
 use Prim.Native.Nat.{ℕ, zero, suc}
 use lib.ListN.{length, drop}
-use Rattle.lists.specs.Lists.{choose}
+use Rattle.lists.specs.Lists.{choose, overlay}
 
 -- 01's 1, "differ in count", and 14, "a lent list shorter than needed"; 0 where neither is so
 abbrev pub refusalOf : Bool → Bool → ℕ
@@ -15,13 +15,9 @@ unfoldable pub unless : {A : Type 0} → ℕ → A → A → A
 unless zero a b = a
 unless (suc k) a b = b
 
--- l with its first places overwritten by new: "leaves places past those needed as they were lent"
-unfoldable pub laid : {A : Type 0} → List A → List A → List A
-laid new l = new ++ drop (length new) l
-
 -- what is left in a list that a call writes; where it is refused, "Kept"
 abbrev pub left : {A : Type 0} → ℕ → List A → List A → List A
-left number new l = unless number (laid new l) l
+left number new l = unless number (overlay new l) l
 
 -- what is left in a list for the call's own use, of which n places are needed: these are free
 unfoldable pub Used : {A : Type 0} → ℕ → ℕ → List A → List A → Type 0

@@ -1,12 +1,12 @@
 -- What a build of the table hands back: rows 1, 2, 3, 10, 13 and 14 of 01's "What a refusal hands back". Definitions only.
 use mathlib.Core.Path.{_≡_}
 use mathlib.Core.Bool.{Bool, not, _||_}
-use mathlib.Core.List.{List, [], _∷_, _++_}
+use mathlib.Core.List.{List, [], _∷_}
 use Prim.Native.Nat.{ℕ, _+_, _*_}
 use lib.ListN.{length, drop, replicate}
 use lib.Dec.{ltb, eqb}
 use lib.Ieee.{Float}
-use Rattle.lists.specs.Lists.{tabulate, foldTo, choose, zero64}
+use Rattle.lists.specs.Lists.{tabulate, foldTo, choose, zero64, overlay}
 use Rattle.filter.specs.Filter.{start, neighbours, coefficients}
 
 -- the lists that a build is lent: the three filter lists, then those it works in
@@ -35,15 +35,11 @@ numberOf (kept k) = k
 numberOf (zeroed k) = k
 numberOf built = 0
 
--- l with its first places overwritten by new: "leaves places past those needed as they were lent"
-unfoldable pub laid : {A : Type 0} → List A → List A → List A
-laid new l = new ++ drop (length new) l
-
 -- what stands in one of the three lists: z is its zero
 abbrev pub left : {A : Type 0} → Outcome → List A → A → List A → List A
 left (kept k) new z l = l
 left (zeroed k) new z l = replicate (length l) z
-left built new z l = laid new l
+left built new z l = overlay new l
 
 -- what stands in a working list of which the first `needed` places are needed: free where the table is built, but for the places past those
 abbrev pub Worked : {A : Type 0} → Outcome → ℕ → A → List A → List A → Type 0

@@ -1,7 +1,8 @@
 -- Lists by index, folds, sums, tests and choices, at any element type. Definitions only.
 use Prim.Native.Nat.{ℕ, zero, suc, _+_, _-_}
 use mathlib.Core.Bool.{Bool, true, false, _||_}
-use mathlib.Core.List.{List, [], _∷_}
+use mathlib.Core.List.{List, [], _∷_, _++_}
+use lib.ListN.{length, drop}
 use lib.Ieee.{Float, binary64, add, ofBits}
 
 -- the list f 0, f 1 .. f (n - 1)
@@ -14,6 +15,10 @@ unfoldable pub overwrite : {A : Type 0} → (ℕ → A) → ℕ → List A → L
 overwrite f zero l = l
 overwrite f (suc n) [] = []
 overwrite f (suc n) (x ∷ l) = f zero ∷ overwrite (λ k. f (suc k)) n l
+
+-- l with its first places those of new: 01's "leaves places past those needed as they were lent"
+unfoldable pub overlay : {A : Type 0} → List A → List A → List A
+overlay new l = new ++ drop (length new) l
 
 -- the state x, changed by f at 0, 1 .. n - 1 in turn
 unfoldable pub foldTo : {A : Type 0} → (ℕ → A → A) → A → ℕ → A

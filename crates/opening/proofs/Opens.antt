@@ -5,14 +5,13 @@ use mathlib.Core.List.{List}
 use Prim.Native.Nat.{ℕ}
 use lib.ListN.{length, replicate}
 use lib.Ieee.{Float}
-use Rattle.lists.specs.Lists.{zero64}
+use Rattle.lists.specs.Lists.{zero64, overlay}
 use Rattle.lists.proofs.Laws.{choose-true, choose-false}
 use Rattle.topo.specs.declared.Iteration.{Iteration}
 use Rattle.plain.specs.declared.State.{State}
 use Rattle.plain.specs.declared.Reply.the-variants.{Refused, Solid}
 use Rattle.plain.specs.declared.Entry.{Entry}
 use Rattle.plain.specs.declared.Entry.the-variants.{Kept, Zeroed, Shut, Opens}
-use Rattle.plain.specs.Lent.{overlay}
 use Rattle.plain.specs.Formulas.{ones}
 use Rattle.plain.specs.Opening.{startsOf, nearOf, coefOf, startOf, entryOf}
 use Rattle.plain.specs.Calls.{Asked, endedOf, inTurn, zeroedLists, openedState, openBy, openOf}

@@ -9,16 +9,16 @@ use lib.ListN.{length, drop, getD, replicate, List·getD-append}
 use lib.Dec.{eqb}
 use lib.Ieee.{Float}
 use borrow.Author.Tests.{ltb-false, eqb-true, ne-eqb, not-false}
-use Rattle.lists.specs.Lists.{tabulate, choose, zero64}
+use Rattle.lists.specs.Lists.{tabulate, choose, zero64, overlay}
 use Rattle.lists.proofs.Laws.{neither, choose-false, length-tabulate, getD-tabulate, overwrite-is}
 use Rattle.ieee.specs.Basic.{one64}
 use Rattle.filter.specs.Filter.{start}
-use Rattle.filter.specs.Build.{Lent, Outcome, zeroed, built, numberOf, laid, left, Worked, outcome, Built}
+use Rattle.filter.specs.Build.{Lent, Outcome, zeroed, built, numberOf, left, Worked, outcome, Built}
 use Rattle.plain.specs.declared.Phase.the-variants.{Solid as SolidPhase}
 use Rattle.plain.specs.declared.State.{State}
 use Rattle.plain.specs.declared.Reply.the-variants.{Refused}
 use Rattle.plain.specs.declared.Entry.the-variants.{Zeroed, Shut, Opens}
-use Rattle.plain.specs.Lent.{overlay, short, openShort, runShort}
+use Rattle.plain.specs.Lent.{short, openShort, runShort}
 use Rattle.plain.specs.Formulas.{ones}
 use Rattle.plain.specs.Opening.{Opening, elements, startsOf, nearOf, coefOf, startOf, tableRefusal, firstRefusal, lastly, entryOf}
 use Rattle.plain.specs.Calls.{Asked, endedOf, inTurn}
@@ -112,15 +112,15 @@ module _ (s : State) (g : Asked) (room : ℕ) (l : Core) (w : Work) where
       all = comes ∙ ap (λ (t : ℕ). choose (eqb t 0) built (zeroed t)) (sym b-is ∙ zero-b) ∙ built-is
 
       starts-is : st ≡ overlay (startsOf o) (l .starts)
-      unfolding laid overlay startsOf
+      unfolding overlay startsOf
       starts-is = made .starts ∙ ap (λ (v : Outcome). left v (startsOf o) 0 (l .starts)) all
 
       near-is : ne ≡ overlay (nearOf o) (l .near)
-      unfolding laid overlay nearOf
+      unfolding overlay nearOf
       near-is = made .near ∙ ap (λ (v : Outcome). left v (nearOf o) 0 (l .near)) all
 
       coef-is : co ≡ overlay (coefOf o) (l .coef)
-      unfolding laid overlay coefOf
+      unfolding overlay coefOf
       coef-is = made .coef ∙ ap (λ (v : Outcome). left v (coefOf o) zero64 (l .coef)) all
 
       worked : Left (length (g .centroids)) w w₁ Opens

@@ -8,13 +8,13 @@ use lib.ListN.{length, take, length-take}
 use lib.Dec.{ltb, leb, eqb}
 use lib.Ieee.{Float}
 use borrow.Author.Tests.{lt-ltb, le-leb, eq-eqb}
-use Rattle.lists.specs.Lists.{choose}
+use Rattle.lists.specs.Lists.{choose, overlay}
 use Rattle.topo.specs.declared.Iteration.{Iteration}
 use Rattle.oc.specs.Record.{complianceOf}
 use Rattle.plain.specs.declared.Phase.{Phase}
 use Rattle.plain.specs.declared.Phase.the-variants.{Idle, Solid, Round}
 use Rattle.plain.specs.declared.State.{State}
-use Rattle.plain.specs.Lent.{overlay, Sizes, answerShort}
+use Rattle.plain.specs.Lent.{Sizes, answerShort}
 use Rattle.plain.specs.Formulas.{Steep, Case, updateAt, recordAt, notFinite, idle, small}
 use Rattle.plain.specs.Opening.{elements, nearOf, caseOf}
 use Rattle.plain.specs.Plain.{Part, nothing, solid, round, Row, inOrder, Checks, stageOf, sharpest, steadyRun, Run, Step, ended, askedOf, updated, stopsOf, checksOf}

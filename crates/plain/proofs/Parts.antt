@@ -7,8 +7,9 @@ use native.Mathlib.Omega.{arith}
 use lib.ListN.{length, take, drop, set, length-append, length-take, length-drop, length-set, take-append-drop}
 use lib.Seq.{take-take, take-append-le, take-all, take-suc-set}
 use borrow.Author.Tests.{ltb-false}
+use Rattle.lists.specs.Lists.{overlay}
 use Rattle.lists.proofs.Laws.{neither}
-use Rattle.plain.specs.Lent.{overlay, Sizes, short, runShort, openShort, answerShort}
+use Rattle.plain.specs.Lent.{Sizes, short, runShort, openShort, answerShort}
 
 module _ {A : Type 0} where
   pub take-part : (n k : ℕ) (l : List A) → n ≤ length (take k l) → take n (take k l) ≡ take n l

@@ -9,7 +9,7 @@ use lib.Seq.{take-all}
 use lib.Dec.{ltb, leb}
 use lib.Ieee.{Float}
 use borrow.Author.Tests.{leb-false}
-use Rattle.lists.specs.Lists.{choose}
+use Rattle.lists.specs.Lists.{choose, overlay}
 use Rattle.lists.proofs.Laws.{choose-false}
 use Rattle.topo.specs.declared.Iteration.{Iteration}
 use Rattle.topo.specs.declared.Stop.{Stop}
@@ -26,7 +26,7 @@ use Rattle.plain.specs.declared.Course.the-variants.{Onward, Ends}
 use Rattle.plain.specs.declared.Entry.{Entry}
 use Rattle.plain.specs.declared.Entry.the-variants.{Kept as KeptOut, Zeroed, Shut, Opens}
 use Rattle.plain.specs.declared.State.{State}
-use Rattle.plain.specs.Lent.{overlay, Sizes}
+use Rattle.plain.specs.Lent.{Sizes}
 use Rattle.plain.specs.Formulas.{Steep, s1, ones, see, recordAt}
 use Rattle.plain.specs.Opening.{Opening, elements, startsOf, nearOf, coefOf, caseOf, startOf, entryOf}
 use Rattle.plain.specs.Plain.{Part, nothing, solid, round, refused, asks, stops, unopened, shown, Seen, Row, judged, firstStop, sharpest, countAt, levelWith, steadyRun, dueSteep, Run, ended, plainStart, askedOf, asking, withWork, updated, stopsOf, onward, checksOf, after, answered, runFrom, plainFrom, plainShut, plainOpen, plainRun}

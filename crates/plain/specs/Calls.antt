@@ -7,7 +7,7 @@ use Prim.Native.Nat.{ℕ, zero, suc}
 use lib.ListN.{length, take, drop, set, replicate}
 use lib.Dec.{ltb, leb, eqb}
 use lib.Ieee.{Float}
-use Rattle.lists.specs.Lists.{choose, zero64}
+use Rattle.lists.specs.Lists.{choose, zero64, overlay}
 use Rattle.topo.specs.declared.Goal.{Goal}
 use Rattle.topo.specs.declared.Iteration.{Iteration}
 use Rattle.topo.specs.declared.Stop.the-variants.{Stopped}
@@ -25,7 +25,7 @@ use Rattle.plain.specs.declared.Course.the-variants.{Onward, Ends}
 use Rattle.plain.specs.declared.Entry.{Entry}
 use Rattle.plain.specs.declared.Entry.the-variants.{Kept as KeptOut, Zeroed, Shut, Opens}
 use Rattle.plain.specs.declared.State.{State}
-use Rattle.plain.specs.Lent.{overlay, Sizes, answerShort}
+use Rattle.plain.specs.Lent.{Sizes, answerShort}
 use Rattle.plain.specs.Formulas.{Steep, s1, s2, s4, s8, s16, Case, ones, see, updateAt, recordAt, notFinite, idle, small, level}
 use Rattle.plain.specs.Opening.{Opening, elements, startsOf, nearOf, coefOf, startOf, entryOf}
 use Rattle.plain.specs.Plain.{Answer, Part, nothing, solid, round, Out, refused, asks, stops, Shown, unopened, shown, Seen, Checks, judged, Stops, firstStop, sharpest}

@@ -1,14 +1,9 @@
 -- Lists that are lent to a call, and how long they must be. Definitions only.
 use mathlib.Core.Bool.{Bool, false, _||_}
-use mathlib.Core.List.{List, [], _∷_, _++_}
+use mathlib.Core.List.{List, [], _∷_}
 use Prim.Native.Nat.{ℕ, suc}
-use lib.ListN.{length, drop}
 use lib.Dec.{ltb}
 use Rattle.filter.specs.Build.{words}
-
--- l with its first places those of new: "leaves places past those needed as they were lent"
-unfoldable pub overlay : {A : Type 0} → List A → List A → List A
-overlay new l = new ++ drop (length new) l
 
 -- how long each list of a call is that it may write or that an answer reads; `work` has those of the working lists
 pub record Sizes : Type 0 where

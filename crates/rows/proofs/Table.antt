@@ -10,10 +10,10 @@ use lib.Seq.{drop-cons, set-append-seam, append-snoc}
 use lib.Dec.{eqb}
 use borrow.Author.Tests.{eq-eqb, ne-eqb}
 use lib.Ieee.{Float}
-use Rattle.lists.specs.Lists.{tabulate, overwrite, foldTo}
+use Rattle.lists.specs.Lists.{tabulate, overwrite, foldTo, overlay}
 use Rattle.lists.proofs.Laws.{choose-true, choose-false, length-tabulate, overwrite-more, overwrite-set}
 use Rattle.filter.specs.Filter.{joined, columns, neighbours, start, coefficient, coefficients}
-use Rattle.filter.specs.Build.{laid, tooBig, tooShort, rowRefusal, rowsRefusal}
+use Rattle.filter.specs.Build.{tooBig, tooShort, rowRefusal, rowsRefusal}
 use Rattle.rows.specs.Steps.{written, roomRefusal, Rowed, Filled}
 use Rattle.rows.proofs.Room.{has-room}
 
@@ -26,17 +26,17 @@ tabulate-snoc {A} f (suc n) = ap (λ (l : List A). f zero ∷ l) (tabulate-snoc 
 
 module _ {A : Type 0} (old : List A) where
   -- one place more
-  laid-more : (pre : List A) (v : A) → length pre < length old → set (laid pre old) (length pre) v ≡ laid (pre ++ (v ∷ [])) old
-  unfolding laid
+  laid-more : (pre : List A) (v : A) → length pre < length old → set (overlay pre old) (length pre) v ≡ overlay (pre ++ (v ∷ [])) old
+  unfolding overlay
   laid-more pre v lt =
       ap (λ (r : List A). set (pre ++ r) (length pre) v) (drop-cons old (length pre) v lt)
       ∙ set-append-seam pre (getD old (length pre) v) (drop (suc (length pre)) old) v
       ∙ sym (append-snoc pre v (drop (suc (length pre)) old))
       ∙ ap (λ (k : ℕ). (pre ++ (v ∷ [])) ++ drop k old) (sym (length-append pre (v ∷ []) ∙ add-one (length pre)))
 
-  pub laid-written : (pre : List A) (f : ℕ → A) (count : ℕ) → length pre + count ≤ length old → written (length pre) f count (laid pre old) ≡ laid (pre ++ tabulate f count) old
+  pub laid-written : (pre : List A) (f : ℕ → A) (count : ℕ) → length pre + count ≤ length old → written (length pre) f count (overlay pre old) ≡ overlay (pre ++ tabulate f count) old
   unfolding written foldTo tabulate
-  laid-written pre f zero fit = ap (λ (l : List A). laid l old) (sym (append-nil pre))
+  laid-written pre f zero fit = ap (λ (l : List A). overlay l old) (sym (append-nil pre))
     where
       append-nil : (l : List A) → l ++ [] ≡ l
       append-nil [] = refl
@@ -45,15 +45,15 @@ module _ {A : Type 0} (old : List A) where
       let p = pre ++ tabulate f n in
       let e : length pre + n ≡ length p = sym (length-append pre (tabulate f n) ∙ ap (λ (k : ℕ). length pre + k) (length-tabulate f n)) in
       ap (λ (l : List A). set l (length pre + n) (f n)) (laid-written pre f n (omega arith))
-      ∙ ap (λ (k : ℕ). set (laid p old) k (f n)) e ∙ laid-more p (f n) (omega arith)
-      ∙ ap (λ (l : List A). laid l old) (append-assoc pre (tabulate f n) (f n ∷ []) ∙ ap (λ (l : List A). pre ++ l) (sym (tabulate-snoc f n)))
+      ∙ ap (λ (k : ℕ). set (overlay p old) k (f n)) e ∙ laid-more p (f n) (omega arith)
+      ∙ ap (λ (l : List A). overlay l old) (append-assoc pre (tabulate f n) (f n ∷ []) ∙ ap (λ (l : List A). pre ++ l) (sym (tabulate-snoc f n)))
 
-  pub length-laid : (pre : List A) → length pre ≤ length old → length (laid pre old) ≡ length old
-  unfolding laid
+  pub length-laid : (pre : List A) → length pre ≤ length old → length (overlay pre old) ≡ length old
+  unfolding overlay
   length-laid pre le = length-append pre (drop (length pre) old) ∙ ap (λ (k : ℕ). length pre + k) (length-drop (length pre) old) ∙ omega arith
 
-  pub laid-none : old ≡ laid [] old
-  unfolding laid
+  pub laid-none : old ≡ overlay [] old
+  unfolding overlay
   laid-none = refl
 
 -- a list by its own places, and another through them
@@ -93,14 +93,14 @@ module _ (centroids : List (List Float)) (radius : Float) (planes : List (List F
   neighbours-more e = rw add-one
 
   pub near-more : (e : ℕ) (near₀ near near' : List ℕ) → start centroids radius planes e + length (cols e) ≤ length near₀
-      → near ≡ laid (neighbours centroids radius planes e) near₀ → near' ≡ written (start centroids radius planes e) (λ k. getD (cols e) k 0) (length (cols e)) near
-      → near' ≡ laid (neighbours centroids radius planes (e + 1)) near₀
+      → near ≡ overlay (neighbours centroids radius planes e) near₀ → near' ≡ written (start centroids radius planes e) (λ k. getD (cols e) k 0) (length (cols e)) near
+      → near' ≡ overlay (neighbours centroids radius planes (e + 1)) near₀
   unfolding start
   near-more e near₀ near near' fit is new =
       new ∙ ap (written (length (neighbours centroids radius planes e)) (λ k. getD (cols e) k 0) (length (cols e))) is
       ∙ laid-written near₀ (neighbours centroids radius planes e) (λ k. getD (cols e) k 0) (length (cols e)) fit
-      ∙ ap (λ (l : List ℕ). laid (neighbours centroids radius planes e ++ l) near₀) (tabulate-own (λ x. x) (cols e) 0 ∙ map-own (cols e))
-      ∙ ap (λ (l : List ℕ). laid l near₀) (sym (neighbours-more e))
+      ∙ ap (λ (l : List ℕ). overlay (neighbours centroids radius planes e ++ l) near₀) (tabulate-own (λ x. x) (cols e) 0 ∙ map-own (cols e))
+      ∙ ap (λ (l : List ℕ). overlay l near₀) (sym (neighbours-more e))
 
   module _ (volumes : List Float) where
     abbrev coefs : ℕ → List Float
@@ -125,15 +125,15 @@ module _ (centroids : List (List Float)) (radius : Float) (planes : List (List F
         ∙ sym (length-append (neighbours centroids radius planes e) (cols e))
 
     pub coef-more : (e : ℕ) (coef₀ coef coef' : List Float) → start centroids radius planes e + length (cols e) ≤ length coef₀
-        → coef ≡ laid (coefs e) coef₀ → coef' ≡ written (start centroids radius planes e) (λ k. coefficient centroids radius planes volumes e (getD (cols e) k 0)) (length (cols e)) coef
-        → coef' ≡ laid (coefs (e + 1)) coef₀
+        → coef ≡ overlay (coefs e) coef₀ → coef' ≡ written (start centroids radius planes e) (λ k. coefficient centroids radius planes volumes e (getD (cols e) k 0)) (length (cols e)) coef
+        → coef' ≡ overlay (coefs (e + 1)) coef₀
     coef-more e coef₀ coef coef' fit is new =
         let f : ℕ → Float = λ k. coefficient centroids radius planes volumes e (getD (cols e) k 0) in
         new ∙ ap (written (start centroids radius planes e) f (length (cols e))) is
-        ∙ ap (λ (at : ℕ). written at f (length (cols e)) (laid (coefs e) coef₀)) (sym (length-coefficients e))
+        ∙ ap (λ (at : ℕ). written at f (length (cols e)) (overlay (coefs e) coef₀)) (sym (length-coefficients e))
         ∙ laid-written coef₀ (coefs e) f (length (cols e)) (omega (arith, length-coefficients e))
-        ∙ ap (λ (l : List Float). laid (coefs e ++ l) coef₀) (tabulate-own (coefficient centroids radius planes volumes e) (cols e) 0)
-        ∙ ap (λ (l : List Float). laid l coef₀) (sym (coefficients-more e))
+        ∙ ap (λ (l : List Float). overlay (coefs e ++ l) coef₀) (tabulate-own (coefficient centroids radius planes volumes e) (cols e) 0)
+        ∙ ap (λ (l : List Float). overlay l coef₀) (sym (coefficients-more e))
 
   -- ---- refusals
 
@@ -176,8 +176,8 @@ pub record Laid (centroids : List (List Float)) (radius : Float) (planes : List 
   pub small : at < 2147483648
   pub none : rowsRefusal centroids radius planes (length near₀) (length coef₀) e ≡ 0
   pub begins : starts ≡ overwrite (start centroids radius planes) (e + 1) starts₀
-  pub nears : near ≡ laid (neighbours centroids radius planes e) near₀
-  pub coefs : coef ≡ laid (coefficients centroids radius planes volumes e) coef₀
+  pub nears : near ≡ overlay (neighbours centroids radius planes e) near₀
+  pub coefs : coef ≡ overlay (coefficients centroids radius planes volumes e) coef₀
   pub many-starts : length starts ≡ length starts₀
   pub many-nears : length near ≡ length near₀
   pub many-coefs : length coef ≡ length coef₀
@@ -190,8 +190,8 @@ module _ (centroids : List (List Float)) (radius : Float) (planes : List (List F
         small = omega arith;
         none = refusal-none centroids radius planes (length near) (length coef);
         begins = overwrite-first (start centroids radius planes) lent 0 (sym (start-none centroids radius planes));
-        nears = laid-none near ∙ ap (λ (l : List ℕ). laid l near) (sym (neighbours-none centroids radius planes));
-        coefs = laid-none coef ∙ ap (λ (l : List Float). laid l coef) (sym (coefficients-none centroids radius planes volumes));
+        nears = laid-none near ∙ ap (λ (l : List ℕ). overlay l near) (sym (neighbours-none centroids radius planes));
+        coefs = laid-none coef ∙ ap (λ (l : List Float). overlay l coef) (sym (coefficients-none centroids radius planes volumes));
         many-starts = refl;
         many-nears = refl;
         many-coefs = refl;

@@ -6,9 +6,9 @@ use Prim.Native.Nat.{ℕ, _+_, _*_, _≤_, _<_}
 use lib.ListN.{length, getD, set, take, drop}
 use lib.Dec.{ltb}
 use lib.Ieee.{Float, nan, binary64, mul, div}
-use Rattle.lists.specs.Lists.{overwrite, foldTo, sumTo, choose, zero64}
+use Rattle.lists.specs.Lists.{overwrite, foldTo, sumTo, choose, zero64, overlay}
 use Rattle.filter.specs.Filter.{chosen, columns, coefficient, start, neighbours, coefficients}
-use Rattle.filter.specs.Build.{laid, rowsRefusal}
+use Rattle.filter.specs.Build.{rowsRefusal}
 use Rattle.weights.specs.Steps.{stamped}
 
 -- no two of them hold the same number
@@ -65,8 +65,8 @@ pub record Rowed (centroids : List (List Float)) (radius : Float) (planes : List
 pub record Filled (centroids : List (List Float)) (radius : Float) (planes : List (List Float)) (volumes : List Float) (starts near : List ℕ) (coef : List Float) (number : ℕ) (starts' near' : List ℕ) (coef' : List Float) : Type 0 where
   pub numbers : number ≡ rowsRefusal centroids radius planes (length near) (length coef) (length centroids)
   pub begins : number ≡ 0 → starts' ≡ overwrite (start centroids radius planes) (length centroids + 1) starts
-  pub nears : number ≡ 0 → near' ≡ laid (neighbours centroids radius planes (length centroids)) near
-  pub coefs : number ≡ 0 → coef' ≡ laid (coefficients centroids radius planes volumes (length centroids)) coef
+  pub nears : number ≡ 0 → near' ≡ overlay (neighbours centroids radius planes (length centroids)) near
+  pub coefs : number ≡ 0 → coef' ≡ overlay (coefficients centroids radius planes volumes (length centroids)) coef
 
 -- how long the lists are: the working lists as long as needed
 pub record Sized (n volumes planes starts cell order first sorted stamp weight found bits : ℕ) : Type 0 where

@@ -7,7 +7,7 @@ use native.Mathlib.Omega.{arith}
 use native.Mathlib.Nat.{le-refl}
 use lib.ListN.{length, drop, set, replicate, length-set, length-append, length-replicate}
 use lib.Seq.{take-length}
-use Rattle.lists.specs.Lists.{choose, zero64}
+use Rattle.lists.specs.Lists.{choose, zero64, overlay}
 use Rattle.plain.specs.declared.State.{State}
 use Rattle.plain.specs.declared.Verdict.{Verdict}
 use Rattle.plain.specs.declared.Verdict.the-variants.{Kept, Over, Halts, Begins, Solves}
@@ -15,7 +15,6 @@ use Rattle.plain.specs.declared.Course.{Course}
 use Rattle.plain.specs.declared.Course.the-variants.{Onward, Ends}
 use Rattle.plain.specs.declared.Entry.{Entry}
 use Rattle.plain.specs.declared.Entry.the-variants.{Kept as KeptOut, Zeroed, Shut, Opens}
-use Rattle.plain.specs.Lent.{overlay}
 use Rattle.plain.specs.Opening.{Opening, entryOf}
 use Rattle.plain.specs.Plain.{judged, firstStop}
 use Rattle.plain.specs.Calls.{Lists, Told, sizesOf, partOf, checksAt, answerBy, answerOf, solvedBy, stopsAt, recordIn, Asked, openingOf, openBy, openOf, inTurn, keeps, zeroedLists, lend, giveBack}

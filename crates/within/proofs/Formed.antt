@@ -12,24 +12,24 @@ use lib.Seq.{getD-append-add}
 use lib.Dec.{eqb}
 use lib.Ieee.{Float}
 use borrow.Author.Tests.{ne-eqb}
-use Rattle.lists.specs.Lists.{tabulate, choose}
+use Rattle.lists.specs.Lists.{tabulate, choose, overlay}
 use Rattle.lists.proofs.Laws.{length-tabulate, getD-tabulate, choose-false}
 use Rattle.table.specs.Table.{Wf, wellOf}
 use Rattle.table.proofs.Laws.{wf-well}
 use Rattle.cells.proofs.Walks.{le-or-lt}
 use Rattle.filter.specs.Filter.{joined, met, columns, neighbours, start, coefficients}
-use Rattle.filter.specs.Build.{Lent, kept, zeroed, built, numberOf, laid, rowsRefusal, early, outcome, Built}
+use Rattle.filter.specs.Build.{Lent, kept, zeroed, built, numberOf, rowsRefusal, early, outcome, Built}
 use Rattle.weights.proofs.Chosen.{chosen-rising}
 use Rattle.rows.proofs.Table.{start-more, length-coefficients}
 
 -- ---- places of a list laid over another, and of lists joined
 
-length-laid : {A : Type 0} (new l : List A) → length new ≤ length (laid new l)
-unfolding laid
+length-laid : {A : Type 0} (new l : List A) → length new ≤ length (overlay new l)
+unfolding overlay
 length-laid new l = let e = length-append new (drop (length new) l) in omega arith
 
-getD-laid : {A : Type 0} (new l : List A) (k : ℕ) (d : A) → k < length new → getD (laid new l) k d ≡ getD new k d
-unfolding laid
+getD-laid : {A : Type 0} (new l : List A) (k : ℕ) (d : A) → k < length new → getD (overlay new l) k d ≡ getD new k d
+unfolding overlay
 getD-laid new l k d h = List·getD-append new (drop (length new) l) d k h
 
 module _ {A : Type 0} (f : ℕ → List A) where
@@ -112,13 +112,13 @@ module _ (centroids : List (List Float)) (volumes : List Float) (radius : Float)
   unfolding outcome
   accepted = accepted-is (early (length centroids) (length volumes) (length planes) l) (rowsRefusal centroids radius planes (length (l .near)) (length (l .coef)) (length centroids)) (sym (b .number))
 
-  starts-are : l' .starts ≡ laid (tabulate begins (n + 1)) (l .starts)
+  starts-are : l' .starts ≡ overlay (tabulate begins (n + 1)) (l .starts)
   starts-are = rw accepted at (b .starts)
 
-  near-are : l' .near ≡ laid (neighbours centroids radius planes n) (l .near)
+  near-are : l' .near ≡ overlay (neighbours centroids radius planes n) (l .near)
   near-are = rw accepted at (b .near)
 
-  coef-are : l' .coef ≡ laid (coefficients centroids radius planes volumes n) (l .coef)
+  coef-are : l' .coef ≡ overlay (coefficients centroids radius planes volumes n) (l .coef)
   coef-are = rw accepted at (b .coef)
 
   start-at : (e : ℕ) → e ≤ n → getD (l' .starts) e 0 ≡ begins e

@@ -8,10 +8,10 @@ use lib.ListN.{length, drop, replicate}
 use lib.Dec.{ltb, eqb}
 use lib.Ieee.{Float}
 use borrow.Author.Tests.{eqb-true, eqb-false, ltb-false, not-false, eq-eqb, ne-eqb}
-use Rattle.lists.specs.Lists.{tabulate, overwrite, choose, zero64}
+use Rattle.lists.specs.Lists.{tabulate, overwrite, choose, zero64, overlay}
 use Rattle.lists.proofs.Laws.{length-tabulate, overwrite-is, choose-true, choose-false, passes-on, neither}
 use Rattle.filter.specs.Filter.{start}
-use Rattle.filter.specs.Build.{Lent, kept, zeroed, built, laid, rowsRefusal, shortOf, early, outcome, Built}
+use Rattle.filter.specs.Build.{Lent, kept, zeroed, built, rowsRefusal, shortOf, early, outcome, Built}
 use Rattle.rows.specs.Steps.{Filled, Roomy, Past}
 use Rattle.within.specs.Wiped.{Wiped}
 use Rattle.within.specs.Steps.{shortBy, earlyBy}
@@ -67,8 +67,8 @@ filled centroids radius planes volumes starts near coef k starts' near' coef' h 
     let z = none k h in
     record { numbers = sym z ∙ f .numbers; begins = λ _. f .begins z; nears = λ _. f .nears z; coefs = λ _. f .coefs z }
 
-laid-tabulate : {A : Type 0} (f : ℕ → A) (n : ℕ) (l : List A) → n ≤ length l → overwrite f n l ≡ laid (tabulate f n) l
-unfolding laid
+laid-tabulate : {A : Type 0} (f : ℕ → A) (n : ℕ) (l : List A) → n ≤ length l → overwrite f n l ≡ overlay (tabulate f n) l
+unfolding overlay
 laid-tabulate f n l h = overwrite-is f n l h ∙ ap (λ (k : ℕ). tabulate f n ++ drop k l) (sym (length-tabulate f n))
 
 module _ (centroids : List (List Float)) (volumes : List Float) (radius : Float) (planes : List (List Float)) (l : Lent) where
