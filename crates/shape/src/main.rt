@@ -192,14 +192,19 @@ fn main() {
     let mut weights = [0.0; 256];
     let mut passive = [false; 256];
     let mut mirrors = [[0.0; 6]; 3];
-    load(
+    // A strip that passed so far has at most 16,644 bytes (`reach`), and is kept whole. Were it not, nothing is run.
+    if !load(
         &kept[..at],
         &mut volumes,
         &mut centroids,
         &mut weights,
         &mut passive,
         &mut mirrors,
-    );
+    ) {
+        let n = report::refused(&mut out, 14);
+        io::write_all(STDOUT_FILENO, &out[..n]);
+        return;
+    }
     let end = run(
         strips::goal(job),
         &volumes[..n],

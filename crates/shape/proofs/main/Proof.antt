@@ -81,6 +81,24 @@ slice-aggregate-load-6 c = search needs
 load-requires : tie.Need-load-requires
 load-requires c κs = search needs
 
+slice-aggregate-refused-2 : tie.Need-slice-aggregate-refused-2
+slice-aggregate-refused-2 c = search needs
+
+refused-requires-2 : tie.Need-refused-requires-2
+refused-requires-2 c κs = search needs
+
+array-share-prefix-out-2 : tie.Need-array-share-prefix-out-2
+array-share-prefix-out-2 c = search needs
+
+slice-aggregate-write-all-2 : tie.Need-slice-aggregate-write-all-2
+slice-aggregate-write-all-2 c = sym (length-take-le _ _ (search needs))
+
+write-all-requires-2 : tie.Need-write-all-requires-2
+write-all-requires-2 c κs = search needs
+
+returns-2 : tie.Need-returns-2
+returns-2 c = search needs
+
 goal-requires : tie.Need-goal-requires
 goal-requires c κs = search needs
 
@@ -88,49 +106,49 @@ array-share-prefix-volumes : tie.Need-array-share-prefix-volumes
 array-share-prefix-volumes c = search needs
 
 slice-aggregate-run : tie.Need-slice-aggregate-run
-slice-aggregate-run c = front _ 256 _ (c .before .before .before .before .before .before .before .load .kept .1 .0) (c .before .before .before .before .before .before .before .before .before .before .before .before .before .before .before .least .ensures .1)
+slice-aggregate-run c = front _ 256 _ (c .before .before .before .before .before .before .before .before .load .kept .1 .0) (c .before .before .before .before .before .before .before .before .before .before .before .before .before .before .before .before .least .ensures .1)
 
 array-share-prefix-centroids : tie.Need-array-share-prefix-centroids
 array-share-prefix-centroids c = search needs
 
 slice-aggregate-run-2 : tie.Need-slice-aggregate-run-2
-slice-aggregate-run-2 c = front _ 256 _ (c .before .before .before .before .before .before .before .before .load .kept .1 .1 .0) (c .before .before .before .before .before .before .before .before .before .before .before .before .before .before .before .before .least .ensures .1)
+slice-aggregate-run-2 c = front _ 256 _ (c .before .before .before .before .before .before .before .before .before .load .kept .1 .1 .0) (c .before .before .before .before .before .before .before .before .before .before .before .before .before .before .before .before .before .least .ensures .1)
 
 array-share-prefix-weights : tie.Need-array-share-prefix-weights
 array-share-prefix-weights c = search needs
 
 slice-aggregate-run-3 : tie.Need-slice-aggregate-run-3
-slice-aggregate-run-3 c = front _ 256 _ (c .before .before .before .before .before .before .before .before .before .load .kept .1 .1 .1 .0) (c .before .before .before .before .before .before .before .before .before .before .before .before .before .before .before .before .before .least .ensures .1)
+slice-aggregate-run-3 c = front _ 256 _ (c .before .before .before .before .before .before .before .before .before .before .load .kept .1 .1 .1 .0) (c .before .before .before .before .before .before .before .before .before .before .before .before .before .before .before .before .before .before .least .ensures .1)
 
 array-share-prefix-passive : tie.Need-array-share-prefix-passive
 array-share-prefix-passive c = search needs
 
 slice-aggregate-run-4 : tie.Need-slice-aggregate-run-4
-slice-aggregate-run-4 c = front _ 256 _ (c .before .before .before .before .before .before .before .before .before .before .load .kept .1 .1 .1 .1 .0) (c .before .before .before .before .before .before .before .before .before .before .before .before .before .before .before .before .before .before .least .ensures .1)
+slice-aggregate-run-4 c = front _ 256 _ (c .before .before .before .before .before .before .before .before .before .before .before .load .kept .1 .1 .1 .1 .0) (c .before .before .before .before .before .before .before .before .before .before .before .before .before .before .before .before .before .before .before .least .ensures .1)
 
 array-share-prefix-mirrors : tie.Need-array-share-prefix-mirrors
 array-share-prefix-mirrors c = search needs
 
 slice-aggregate-run-5 : tie.Need-slice-aggregate-run-5
-slice-aggregate-run-5 c = front _ 3 _ (c .before .before .before .before .before .before .before .before .before .before .before .load .kept .1 .1 .1 .1 .1 .0) (c .before .before .before .before .before .before .before .before .before .before .before .before .before .before .before .before .before .before .least2 .ensures .1)
+slice-aggregate-run-5 c = front _ 3 _ (c .before .before .before .before .before .before .before .before .before .before .before .before .load .kept .1 .1 .1 .1 .1 .0) (c .before .before .before .before .before .before .before .before .before .before .before .before .before .before .before .before .before .before .before .least2 .ensures .1)
 
 slice-aggregate-run-6 : tie.Need-slice-aggregate-run-6
 slice-aggregate-run-6 c = search needs
 
 run-requires : tie.Need-run-requires
-run-requires c κs = short _ 256 _ (c .before .before .before .before .before .before .before .before .before .before .before .before .load .kept .1 .0) (c .before .before .before .before .before .before .before .before .before .before .before .before .before .before .before .before .before .before .before .before .least .ensures .1)
+run-requires c κs = short _ 256 _ (c .before .before .before .before .before .before .before .before .before .before .before .before .before .load .kept .1 .0) (c .before .before .before .before .before .before .before .before .before .before .before .before .before .before .before .before .before .before .before .before .before .least .ensures .1)
 
-array-share-prefix-out-2 : tie.Need-array-share-prefix-out-2
-array-share-prefix-out-2 c = search needs
+array-share-prefix-out-3 : tie.Need-array-share-prefix-out-3
+array-share-prefix-out-3 c = search needs
 
-slice-aggregate-write-all-2 : tie.Need-slice-aggregate-write-all-2
-slice-aggregate-write-all-2 c = front _ 14000 _ (c .before .before .run .kept .1 .1 .1 .1 .1 .1 .0) (c .before .before .run .ensures)
+slice-aggregate-write-all-3 : tie.Need-slice-aggregate-write-all-3
+slice-aggregate-write-all-3 c = front _ 14000 _ (c .before .before .run .kept .1 .1 .1 .1 .1 .1 .0) (c .before .before .run .ensures)
 
-write-all-requires-2 : tie.Need-write-all-requires-2
-write-all-requires-2 c κs = search needs
+write-all-requires-3 : tie.Need-write-all-requires-3
+write-all-requires-3 c κs = search needs
 
-returns-2 : tie.Need-returns-2
-returns-2 c = search needs
+returns-3 : tie.Need-returns-3
+returns-3 c = search needs
 
 pub main-spec : {M : Type 1} → statement M
 main-spec =
@@ -157,6 +175,12 @@ main-spec =
     slice-aggregate-load-5
     slice-aggregate-load-6
     load-requires
+    slice-aggregate-refused-2
+    refused-requires-2
+    array-share-prefix-out-2
+    slice-aggregate-write-all-2
+    write-all-requires-2
+    returns-2
     goal-requires
     array-share-prefix-volumes
     slice-aggregate-run
@@ -170,7 +194,7 @@ main-spec =
     slice-aggregate-run-5
     slice-aggregate-run-6
     run-requires
-    array-share-prefix-out-2
-    slice-aggregate-write-all-2
-    write-all-requires-2
-    returns-2)
+    array-share-prefix-out-3
+    slice-aggregate-write-all-3
+    write-all-requires-3
+    returns-3)
