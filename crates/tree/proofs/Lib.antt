@@ -1,3 +1,4 @@
 pub mod Boxes
 pub mod Halves
+pub mod Split
 pub mod Stored
