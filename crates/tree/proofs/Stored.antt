@@ -83,7 +83,8 @@ module _ (faces : List (List Float)) where
   unfolding treeOf choose along-box
   tree-fork f l n = rw (lt-leb (length l) 4 n)
 
-  tree-fuel : (f g : ℕ) (l : List ℕ) → length l ≤ f → length l ≤ g → treeOf faces f l ≡ treeOf faces g l
+  -- a bound of the depth no less than the list's length is as good as another
+  pub tree-fuel : (f g : ℕ) (l : List ℕ) → length l ≤ f → length l ≤ g → treeOf faces f l ≡ treeOf faces g l
   tree-fuel zero g l hf hg = tree-short zero l (omega arith) ∙ sym (tree-short g l (omega arith))
   tree-fuel (suc f) zero l hf hg = tree-short (suc f) l (omega arith) ∙ sym (tree-short zero l (omega arith))
   tree-fuel (suc f) (suc g) l hf hg =

@@ -88,7 +88,7 @@ boxOf (fork b low high) = b
 
 -- 01: "a box of more than four triangles is split again at the middle triangle", along its longest way, and "ties go by number". Those that rank
 -- before the middle triangle are the lower half, and it and the others the upper: no number stands twice, so that each half has its length
--- (`split-at-middle`, proofs/Split.antt). The first argument bounds the depth: the length of the list is enough
+-- (`split-at-middle`, proofs/Split.antt). The first argument bounds the depth: the length of the list is enough (`tree-fuel`, proofs/Stored.antt)
 unfoldable pub treeOf : List (List Float) → ℕ → List ℕ → Tree
 treeOf faces zero l = leaf (boundsOf faces l) l
 treeOf faces (suc f) l =
