@@ -1,5 +1,5 @@
 -- The laws of `specs/Table.antt`. Assumes nothing.
-use mathlib.Core.Path.{_≡_, refl, _∙_}
+use mathlib.Core.Path.{_≡_, refl, ap, _∙_}
 use mathlib.Core.Bool.{Bool, true, false, _&&_}
 use mathlib.Core.List.{List, []}
 use mathlib.Core.Logic.{⊎-elim}
@@ -12,10 +12,20 @@ use lib.Ieee.{Float}
 use lib.Dec.{ltb, leb}
 use borrow.Author.Tests.{ltb-true, ltb-false, leb-true, leb-false, lt-ltb, le-ltb, le-leb, lt-leb, not-true}
 use Rattle.lists.specs.Lists.{tabulate, foldOver, zero64, anyTo, choose}
-use Rattle.lists.proofs.Laws.{length-tabulate, getD-tabulate, tabulate-same, foldOver-none, foldTo-keeps, sumOver-none, any-not, both, choose-true}
+use Rattle.lists.proofs.Laws.{length-tabulate, getD-tabulate, tabulate-same, foldOver-none, foldOver-more, foldTo-keeps, sumOver-none, any-not, both, choose-true}
 use Rattle.table.specs.Table.{rowEnd, rowSum, applied, addTo, rowShare, backed, Within, Wf, wellOf}
 
 -- ---- lists
+
+-- four turns of one place each
+pub four-turns : {A : Type 0} (f : ℕ → A → A) (x : A) (a k : ℕ) → a ≤ k → f (k + 3) (f (k + 2) (f (k + 1) (f k (foldOver f x a k)))) ≡ foldOver f x a (k + 4)
+four-turns {A} f x a k h =
+    let more : (i j : ℕ) → (k + i) + 1 ≡ k + j → f (k + i) (foldOver f x a (k + i)) ≡ foldOver f x a (k + j) =
+    λ i j e. foldOver-more f x a (k + i) (omega arith) ∙ ap (foldOver f x a) e in
+    ap (λ (t : A). f (k + 3) (f (k + 2) (f (k + 1) t))) (foldOver-more f x a k h)
+    ∙ ap (λ (t : A). f (k + 3) (f (k + 2) t)) (more 1 2 (omega arith))
+    ∙ ap (f (k + 3)) (more 2 3 (omega arith))
+    ∙ more 3 4 (omega arith)
 
 -- what a turn keeps, the loop keeps
 pub foldOver-keeps : {A : Type 0} (P : A → Type 0) (f : ℕ → A → A) (x : A) → ((k : ℕ) (s : A) → P s → P (f k s)) → P x → (a b : ℕ) → P (foldOver f x a b)

@@ -1,7 +1,7 @@
 -- `table::share` meets its contract. The invariant of both loops: the places passed are added. A row that is not empty is within both lists. Assumes nothing.
 use borrow.Author.Needs.{needs}
 use mathlib.Core.Path.{_≡_, refl, sym, _∙_, ap}
-use Prim.Native.Nat.{ℕ, _+_, _-_, _≤_, _<_}
+use Prim.Native.Nat.{_+_, _-_, _≤_, _<_}
 use native.Mathlib.Nat.{le-antisymm}
 use native.Mathlib.Omega.{arith}
 use denote.Ref.{now}
@@ -11,7 +11,7 @@ use lib.Ieee.{Float}
 use Rattle.lists.specs.Lists.{foldOver}
 use Rattle.lists.proofs.Laws.{foldOver-none, foldOver-more, foldOver-join}
 use Rattle.table.specs.Table.{addTo, rowShare}
-use Rattle.table.proofs.Laws.{rowEnd-from, rowEnd-room}
+use Rattle.table.proofs.Laws.{rowEnd-from, rowEnd-room, four-turns}
 use Rattle.table.proofs.share.Statement.{statement}
 use Rattle.table.proofs.share.Tie as tie
 
@@ -33,16 +33,6 @@ room c =
     let a = c .before .before .before .before .before .before .before .before .args in
     let l = c .before .loop2 in
     rowEnd-room (now (a .near)) (now (a .coef)) (a .from) (a .to) (l .k) (omega (arith, l .inv .0, l .inv .1)) (omega arith)
-
--- four turns of one place each
-four : (f : ℕ → List Float → List Float) (x : List Float) (a k : ℕ) → a ≤ k → f (k + 3) (f (k + 2) (f (k + 1) (f k (foldOver f x a k)))) ≡ foldOver f x a (k + 4)
-four f x a k h =
-    let more : (i j : ℕ) → (k + i) + 1 ≡ k + j → f (k + i) (foldOver f x a (k + i)) ≡ foldOver f x a (k + j) =
-    λ i j e. foldOver-more f x a (k + i) (omega arith) ∙ ap (foldOver f x a) e in
-    ap (λ (t : List Float). f (k + 3) (f (k + 2) (f (k + 1) t))) (foldOver-more f x a k h)
-    ∙ ap (λ (t : List Float). f (k + 3) (f (k + 2) t)) (more 1 2 (omega arith))
-    ∙ ap (f (k + 3)) (more 2 3 (omega arith))
-    ∙ more 3 4 (omega arith)
 
 row-end-requires : tie.Need-row-end-requires Inv-loop μ-loop Inv-loop2 μ-loop2
 row-end-requires c κs = tt
@@ -74,7 +64,7 @@ loop-again c =
     let a = c .before .before .before .before .before .before .before .before .before .before .args in
     let l = c .before .before .before .before .before .loop in
     let f = addTo (now (a .near)) (now (a .coef)) (a .v) in
-    (search needs, search needs, search needs, c .before .before .add-four .ensures ∙ ap (λ (x : List Float). f (l .k + 3) (f (l .k + 2) (f (l .k + 1) (f (l .k) x)))) (l .inv .3) ∙ four f (now (a .out)) (a .from) (l .k) (l .inv .0))
+    (search needs, search needs, search needs, c .before .before .add-four .ensures ∙ ap (λ (x : List Float). f (l .k + 3) (f (l .k + 2) (f (l .k + 1) (f (l .k) x)))) (l .inv .3) ∙ four-turns f (now (a .out)) (a .from) (l .k) (l .inv .0))
 
 loop2-holds : tie.Need-loop2-holds Inv-loop μ-loop Inv-loop2 μ-loop2
 loop2-holds c =
