@@ -18,20 +18,25 @@ pub const BLOCKS: [[usize; 3]; 3] = [[5, 6, 6], [11, 11, 11], [22, 22, 22]];
 pub const RADIUS: f64 = 1.5;
 /// How long each side of a line is timed for at least.
 const SECONDS: f64 = 0.3;
+/// How long one timing takes at least: a short call is made many times over.
+const TIMING: f64 = 0.002;
 
-/// Best seconds of each side, one after the other until both were timed long enough, `repetitions` times at most, and three times at least unless
-/// that is less.
+/// Best seconds a call of each side, timed one after the other until both were timed long enough, `repetitions` times at most, and three times at least
+/// unless that is less.
 pub fn best(repetitions: usize, mut ours: impl FnMut(), mut rust: impl FnMut()) -> (f64, f64) {
-    let time = |f: &mut dyn FnMut()| {
+    let time = |f: &mut dyn FnMut(), calls: usize| {
         let began = Instant::now();
-        f();
-        began.elapsed().as_secs_f64()
+        for _ in 0..calls {
+            f();
+        }
+        began.elapsed().as_secs_f64() / calls as f64
     };
+    let calls = (TIMING / time(&mut ours, 1).min(time(&mut rust, 1))).ceil().max(1.0) as usize;
     let (mut least, mut spent, mut done) = ((f64::INFINITY, f64::INFINITY), 0.0, 0);
     while done < repetitions.min(3) || (done < repetitions && spent < SECONDS) {
-        let (a, b) = (time(&mut ours), time(&mut rust));
+        let (a, b) = (time(&mut ours, calls), time(&mut rust, calls));
         least = (least.0.min(a), least.1.min(b));
-        spent += a.min(b);
+        spent += a.min(b) * calls as f64;
         done += 1;
     }
     least
