@@ -253,8 +253,8 @@ fn add_four(near: &[u32], coef: &[f64], v: f64, k: usize, out: &mut [f64])
     let q = coef[k + 1usize] * v;
     let r = coef[k + 2usize] * v;
     let s = coef[k + 3usize] * v;
-    let n = out.len();
-    if (a < n) & (b < n) & (c < n) & (d < n) {
+    let m = out.len();
+    if (a < m) & (b < m) & (c < m) & (d < m) {
         four_in(out, a, b, c, d, p, q, r, s);
     } else {
         four_to(out, a, b, c, d, p, q, r, s);
