@@ -526,7 +526,7 @@ impl Soup {
     }
 }
 
-/// As many triangles as the domain has, of a box and of a soup, and counts at both sides of the domain's.
+/// As many triangles as the domain has, of a box, of a soup and along a row, and counts at both sides of the domain's.
 fn many(long: bool) -> Vec<Soup> {
     let mut g = Gen::of(1, "many");
     let mesh = TetMesh::block([22, 22, 22], Vec3::new(22.0, 23.0, 24.0));
@@ -544,6 +544,13 @@ fn many(long: bool) -> Vec<Soup> {
         }
         let tris = (0..65_535).map(|t| [0, 1, 2, 0, 1, 2].map(|k| 3 * t + k)).collect();
         all.push(Soup { nodes, tris, plane: plane(&mut g, [0.0; 3]), lent: [0; 8] });
+    }
+    for turns in [1, 2] {
+        // Numbers that go along a row and back, so that the first, the middle and the last of them tell little of the rest.
+        let along = |t: u32| f64::from((t * turns).abs_diff(65_535 * turns / 2) % 32_768);
+        let nodes = (0..3 * 65_535).map(|k| [along(k / 3), f64::from(k % 3), 0.0]).collect();
+        let tris = (0..65_535).map(|t| [0, 1, 2, 0, 1, 2].map(|k| 3 * t + k)).collect();
+        all.push(Soup { nodes, tris, plane: [9_000.0, 0.0, 0.0, 1.0, 0.0, 0.0], lent: [0; 8] });
     }
     let counts = |nodes: usize, tris: usize, name: u32| Soup {
         nodes: vec![[1.0, 2.0, 3.0]; nodes],
