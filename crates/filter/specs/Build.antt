@@ -47,7 +47,7 @@ Worked (kept k) needed z l l' = l' ≡ l
 Worked (zeroed k) needed z l l' = l' ≡ replicate (length l) z
 Worked built needed z l l' = (length l' ≡ length l) × (drop needed l' ≡ drop needed l)
 
--- the map of bits: 65,536 of them, and one for each 64
+-- how many places of `bits` are needed: "working lists as docs/ fixes them"
 abbrev pub words : ℕ
 words = 1040
 
