@@ -59,7 +59,7 @@ pub extern "C" fn sokdrib_apply(
 )
     ensures { λ _. ⌜ now (out .exit) ≡ applied (now (starts .entry)) (now (near .entry)) (now (coef .entry)) (now (x .entry)) (length (now (out .entry))) ⌝ }
 {
-    table::apply(starts, near, coef, x, out);
+    apply::apply(starts, near, coef, x, out);
 }
 
 // Slopes against filtered densities carried back to the densities: the transposed product, one row for each place of g.
@@ -73,5 +73,5 @@ pub extern "C" fn sokdrib_back(
 )
     ensures { λ _. ⌜ now (out .exit) ≡ backed (now (starts .entry)) (now (near .entry)) (now (coef .entry)) (now (g .entry)) (length (now (g .entry))) (length (now (out .entry))) ⌝ }
 {
-    table::back(starts, near, coef, g, out);
+    back::back(starts, near, coef, g, out);
 }

@@ -250,20 +250,13 @@ pub extern "C" fn sokdrib_level_of(x: f64) -> u16
     topo::level_of(x)
 }
 
-// The length of the shorter of two lists.
-fn shorter(a: usize, b: usize) -> usize
-    ensures { λ r. ⌜ r ≡ min a b ⌝ }
-{
-    if a < b { a } else { b }
-}
-
 // The root of each of xs, as far as both lists go; the rest of out stays as lent.
 #[no_mangle]
 pub extern "C" fn sokdrib_sqrt_each(xs: &[f64], out: &mut [f64])
     ensures { λ _. ⌜ now (out .exit)
         ≡ overwrite (λ k. sqrtOf binary64 (getD (now (xs .entry)) k nan)) (min (length (now (xs .entry))) (length (now (out .entry)))) (now (out .entry)) ⌝ }
 {
-    let n = shorter(xs.len(), out.len());
+    let n = lists::lesser(xs.len(), out.len());
     let mut i = 0usize;
     while i < n {
         out[i] = ieee::root::sqrt(xs[i]);
@@ -277,7 +270,7 @@ pub extern "C" fn sokdrib_tanh_each(zs: &[f64], out: &mut [f64])
     ensures { λ _. ⌜ now (out .exit)
         ≡ overwrite (λ k. tanhOf (getD (now (zs .entry)) k nan)) (min (length (now (zs .entry))) (length (now (out .entry)))) (now (out .entry)) ⌝ }
 {
-    let n = shorter(zs.len(), out.len());
+    let n = lists::lesser(zs.len(), out.len());
     let mut i = 0usize;
     while i < n {
         out[i] = ieee::tanh(zs[i]);
@@ -326,7 +319,7 @@ pub extern "C" fn sokdrib_dist2_each(points: &[[f64; 3]], triangles: &[[f64; 9]]
         (min (min (length (now (points .entry))) (length (now (triangles .entry)))) (length (now (out .entry))))
         (now (out .entry)) ⌝ }
 {
-    let n = shorter(shorter(points.len(), triangles.len()), out.len());
+    let n = lists::lesser(lists::lesser(points.len(), triangles.len()), out.len());
     let mut k = 0usize;
     while k < n {
         out[k] = dist2_of(points[k], triangles[k]);

@@ -43,7 +43,7 @@ pub extern "C" fn sokdrib_open(
         (record { volumes = now (volumes .entry); passive = now (passive .entry); starts = now (starts .exit); near = now (near .exit); coef = now (coef .exit); design = now (design .exit); density = now (density .exit); last = now (last .entry) })
         (record { cell = now (cell .exit); order = now (order .exit); first = now (first .exit); sorted = now (sorted .exit); stamp = now (stamp .exit); weight = now (weight .exit); found = now (found .exit); bits = now (bits .exit) }) ⌝ }
 {
-    flat::calls::open(
+    calls::open(
         room,
         state,
         fraction,
@@ -106,7 +106,7 @@ pub extern "C" fn sokdrib_answer(
         (record { volumes = now (volumes .entry); passive = now (passive .entry); starts = now (starts .entry); near = now (near .entry); coef = now (coef .entry); design = now (design .exit); density = now (density .exit); last = now (last .exit) })
         (record { free = now (free .exit); slope = now (slope .exit); spare = now (spare .exit); dc = now (dc .exit); dv = now (dv .exit) }) ⌝ }
 {
-    flat::calls::answer(
+    calls::answer(
         room,
         state,
         said,

@@ -1,3 +1,4 @@
-// filter.rs: the group of the planes of symmetry, and the middles' box. The definitions of the table and of its build stand in specs/.
+// filter.rs: the group of the planes of symmetry, the middles' box, and the room that a row needs. The definitions of the table and of its build stand in specs/.
 pub mod grid;
 pub mod group;
+pub mod room;

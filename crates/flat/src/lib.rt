@@ -1,6 +1,4 @@
-// A run's state, answers and records as structs of numbers, for callers that know no enums: the calls of `capi` over them.
-pub mod calls;
-
+// A run's state, answers and records as structs of numbers, for callers that know no enums. The calls over them are those of `calls`.
 ghost use mathlib.Core.Path.{_≡_};
 ghost use lib.Dec.{ltb};
 ghost use Rattle.flat.specs.Flat as Flat;
@@ -71,7 +69,7 @@ fn phase_of(number: u32) -> Phase
     Phase::Round
 }
 
-fn said_of(number: u32) -> Said
+pub fn said_of(number: u32) -> Said
     ensures { λ r. ⌜ r ≡ Flat.saidOf number ⌝ }
 {
     if number == 0 {
@@ -83,7 +81,7 @@ fn said_of(number: u32) -> Said
     Said::Halted
 }
 
-fn state_of(s: RunState) -> State
+pub fn state_of(s: RunState) -> State
     ensures { λ r. ⌜ r ≡ Flat.stateOf s ⌝ }
 {
     State {
@@ -166,7 +164,7 @@ fn reply_number(r: Reply) -> usize
     }
 }
 
-fn told_numbers(t: Told) -> RunTold
+pub fn told_numbers(t: Told) -> RunTold
     ensures { λ r. ⌜ r ≡ Flat.toldNumbers t ⌝ }
 {
     let reply = t.reply;
@@ -191,7 +189,7 @@ fn record_numbers(i: Iteration) -> RunRecord
     }
 }
 
-fn step_numbers(s: Step) -> RunStep
+pub fn step_numbers(s: Step) -> RunStep
     ensures { λ r. ⌜ r ≡ Flat.stepNumbers s ⌝ }
 {
     RunStep {
@@ -202,14 +200,14 @@ fn step_numbers(s: Step) -> RunStep
 }
 
 // A phase that no run has.
-fn unknown(s: RunState) -> bool
+pub fn unknown(s: RunState) -> bool
     ensures { λ r. ⌜ r ≡ ltb 2 (s .phase) ⌝ }
 {
     s.phase > 2
 }
 
 // Then 20, and the state as it came.
-fn refused(s: RunState) -> RunTold
+pub fn refused(s: RunState) -> RunTold
     ensures { λ r. ⌜ r ≡ Flat.refused20 s ⌝ }
 {
     RunTold {
@@ -220,7 +218,7 @@ fn refused(s: RunState) -> RunTold
 }
 
 // The same for an answer, which makes no record: `room` is past the history's end.
-fn unrecorded(room: usize, s: RunState) -> RunStep
+pub fn unrecorded(room: usize, s: RunState) -> RunStep
     ensures { λ r. ⌜ (r .told ≡ Flat.refused20 s) × (r .at ≡ room) ⌝ }
 {
     RunStep {

@@ -1,6 +1,6 @@
 // A box divided into cells, each into six tetrahedra: the nodes and the tetrahedra of mesh.rs's `block`. All of it is internal: for `block`.
 ghost use mathlib.Core.Path.{_≡_};
-ghost use Prim.Native.Nat.{_+_, _≤_, _<_, min, max};
+ghost use Prim.Native.Nat.{_+_, _≤_, _<_, max};
 ghost use mathlib.Core.List.{[]};
 ghost use lib.ListN.{length, set};
 ghost use Rattle.lists.specs.Lists.{overwrite};
@@ -167,12 +167,6 @@ pub fn tet_count(g: Grid) -> usize
 
 // ---- the edges met
 
-fn lesser(a: usize, b: usize) -> usize
-    ensures { λ r. ⌜ r ≡ min a b ⌝ }
-{
-    if a < b { a } else { b }
-}
-
 pub fn greater(a: usize, b: usize) -> usize
     ensures { λ r. ⌜ r ≡ max a b ⌝ }
 {
@@ -246,7 +240,7 @@ fn look(
     requires { ⌜ Filing.Ready g a b next (now nodes) (now edges) ⌝ }
     ensures { λ r. ⌜ Filing.Looks g a b next (now (nodes .entry)) (now (nodes .exit)) (now (edges .entry)) (now (edges .exit)) r ⌝ }
 {
-    let lo = lesser(a, b);
+    let lo = lists::lesser(a, b);
     let hi = greater(a, b);
     let slot = 8 * lo + direction(g, hi - lo);
     let number = edges[slot];

@@ -7,7 +7,7 @@ use mathlib.Core.Bool.{Bool, true, false, _||_, _&&_}
 use mathlib.Core.Logic.{⊎-elim}
 use native.Mathlib.Nat.{not-suc-le-zero, le-of-suc-le-suc, eq-or-lt-of-le}
 use native.Mathlib.Numerals.{add-one}
-use lib.ListN.{length, getD, set, drop}
+use lib.ListN.{length, getD, set, drop, replicate}
 use lib.Ieee.{Float, binary64, add}
 use Rattle.lists.specs.Lists.{tabulate, overwrite, sumTo, foldTo, zero64, foldOver, sumOver, anyTo, choose}
 
@@ -105,6 +105,15 @@ overwrite-all f zero [] h = refl
 overwrite-all f zero (x ∷ l) h = absurd (omega arith)
 overwrite-all f (suc n) [] h = absurd (omega arith)
 overwrite-all f (suc n) (x ∷ l) h = ap (λ (t : List _). f zero ∷ t) (overwrite-all (λ k. f (suc k)) n l (omega arith))
+
+-- one value at every place
+pub tabulate-throughout : {A : Type 0} (z : A) (n : ℕ) → tabulate (λ _. z) n ≡ replicate n z
+unfolding tabulate
+tabulate-throughout z zero = refl
+tabulate-throughout {A} z (suc n) = ap (λ (l : List A). z ∷ l) (tabulate-throughout z n)
+
+pub overwrite-throughout : {A : Type 0} (z : A) (l : List A) → overwrite (λ _. z) (length l) l ≡ replicate (length l) z
+overwrite-throughout z l = overwrite-all (λ _. z) (length l) l refl ∙ tabulate-throughout z (length l)
 
 -- what is overwritten may be anything
 pub overwrite-set : {A : Type 0} (f : ℕ → A) (n : ℕ) (l : List A) (i : ℕ) (v : A) → i < n → overwrite f n (set l i v) ≡ overwrite f n l

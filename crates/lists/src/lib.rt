@@ -1,5 +1,6 @@
 // Choices without a branch, and a sum, against `specs/Lists.antt`.
 ghost use mathlib.Core.Path.{_≡_};
+ghost use Prim.Native.Nat.{min};
 ghost use lib.ListN.{length, getD};
 ghost use lib.Ieee.{nan};
 ghost use Rattle.lists.specs.Lists.{sumTo, choose};
@@ -15,6 +16,13 @@ pub fn either(test: bool, a: f64, b: f64) -> f64
     ensures { λ r. ⌜ r ≡ choose test a b ⌝ }
 {
     if test { a } else { b }
+}
+
+// The lesser of two counts.
+pub fn lesser(a: usize, b: usize) -> usize
+    ensures { λ r. ⌜ r ≡ min a b ⌝ }
+{
+    if a < b { a } else { b }
 }
 
 // The sum from the left, each addition rounded.

@@ -8,17 +8,11 @@ ghost use Rattle.lists.specs.Lists.{tabulate, overwrite};
 ghost use Rattle.nodes.specs.Nodes.{ofSet, byNodes};
 ghost use Rattle.nodes.specs.Steps.{flagged, flaggedSet, flaggedSets, anyFlagged};
 
-fn fewer(a: usize, b: usize) -> usize
-    ensures { λ r. ⌜ r ≡ min a b ⌝ }
-{
-    if a < b { a } else { b }
-}
-
 // How many places there are from a start up to an end, of a list of n.
 fn places(from: usize, end: usize, n: usize) -> usize
     ensures { λ r. ⌜ r ≡ min end n - from ⌝ }
 {
-    let to = fewer(end, n);
+    let to = lists::lesser(end, n);
     if from < to { to - from } else { 0 }
 }
 

@@ -22,7 +22,7 @@ fn filtered(well: bool, starts: &[u32], near: &[u32], coef: &[f64], x: &[f64], o
     if well {
         table::apply_well(starts, near, coef, x, out);
     } else {
-        table::apply(starts, near, coef, x, out);
+        apply::apply(starts, near, coef, x, out);
     }
 }
 

@@ -6,12 +6,3 @@ pub mod record;
 pub mod seen;
 pub mod slopes;
 pub mod start;
-
-ghost use mathlib.Core.Path.{_≡_};
-ghost use Prim.Native.Nat.{min};
-
-fn shorter(a: usize, b: usize) -> usize
-    ensures { λ r. ⌜ r ≡ min a b ⌝ }
-{
-    if a < b { a } else { b }
-}

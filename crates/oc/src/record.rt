@@ -6,7 +6,7 @@ pub fn dot(a: &[f64], b: &[f64]) -> f64
     ensures { λ r. ⌜ r ≡ dotOf (now (a .entry)) (now (b .entry)) ⌝ }
 {
     let mut t = 0.0;
-    let n = crate::shorter(a.len(), b.len());
+    let n = lists::lesser(a.len(), b.len());
     let mut i = 0usize;
     while i < n {
         t = t + a[i] * b[i];
@@ -34,7 +34,7 @@ pub fn change(next: &[f64], x: &[f64]) -> f64
     ensures { λ r. ⌜ r ≡ changeOf (now (next .entry)) (now (x .entry)) ⌝ }
 {
     let mut m = 0.0;
-    let n = crate::shorter(next.len(), x.len());
+    let n = lists::lesser(next.len(), x.len());
     let mut i = 0usize;
     while i < n {
         m = ieee::max(m, ieee::abs(next[i] - x[i]));
@@ -48,7 +48,7 @@ pub fn grey(density: &[f64], free: &[f64], total: f64) -> f64
     ensures { λ r. ⌜ r ≡ greyOf (now (density .entry)) (now (free .entry)) total ⌝ }
 {
     let mut t = 0.0;
-    let n = crate::shorter(density.len(), free.len());
+    let n = lists::lesser(density.len(), free.len());
     let mut i = 0usize;
     while i < n {
         let x = density[i];

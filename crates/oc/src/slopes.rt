@@ -57,7 +57,7 @@ pub fn work_slope(
     ensures { λ _. ⌜ now (out .exit) ≡ workSlope (now (starts .entry)) (now (near .entry)) (now (coef .entry)) (now (passive .entry)) (now (density .entry)) (now (slope .entry)) (now (energies .entry)) ⌝ }
 {
     work_by_density(passive, density, slope, energies, by_density);
-    table::back(starts, near, coef, &by_density[..], out);
+    back::back(starts, near, coef, &by_density[..], out);
 }
 
 // How the volume goes with the design, `free` each element's volume where it is not held solid.
@@ -74,7 +74,7 @@ pub fn volume_slope(
     ensures { λ _. ⌜ now (out .exit) ≡ volumeSlope (now (starts .entry)) (now (near .entry)) (now (coef .entry)) (now (slope .entry)) (now (free .entry)) ⌝ }
 {
     volume_by_density(slope, free, by_density);
-    table::back(starts, near, coef, &by_density[..], out);
+    back::back(starts, near, coef, &by_density[..], out);
 }
 
 // Without sharpening the volume goes straight with the design: its slope is the same each round.
@@ -82,5 +82,5 @@ pub fn straight_slope(starts: &[u32], near: &[u32], coef: &[f64], free: &[f64], 
     requires { ⌜ length (now out) ≡ length (now free) ⌝ }
     ensures { λ _. ⌜ now (out .exit) ≡ straightSlope (now (starts .entry)) (now (near .entry)) (now (coef .entry)) (now (free .entry)) ⌝ }
 {
-    table::back(starts, near, coef, free, out);
+    back::back(starts, near, coef, free, out);
 }

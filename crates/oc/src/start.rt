@@ -19,7 +19,7 @@ pub fn solid_volume(volumes: &[f64], passive: &[bool]) -> f64
     ensures { λ r. ⌜ r ≡ solidVolume (now (volumes .entry)) (now (passive .entry)) ⌝ }
 {
     let mut t = 0.0;
-    let n = crate::shorter(volumes.len(), passive.len());
+    let n = lists::lesser(volumes.len(), passive.len());
     let mut i = 0usize;
     while i < n {
         t = lists::either(passive[i], t + volumes[i], t);

@@ -1,7 +1,7 @@
 // The volumes that two designs keep, sharpened, reckoned side by side: the table is read once for both. Each number is worked out as it would be
 // alone.
 ghost use mathlib.Core.Path.{_≡_};
-ghost use Prim.Native.Nat.{_+_, _<_, min};
+ghost use Prim.Native.Nat.{_+_, _<_};
 ghost use lib.ListN.{length, getD};
 ghost use mathlib.Core.Bool.{false};
 ghost use lib.Ieee.{nan, binary64, add, mul, div};
@@ -143,12 +143,6 @@ fn one(
     Two { a, b }
 }
 
-fn shorter(a: usize, b: usize) -> usize
-    ensures { λ r. ⌜ r ≡ min a b ⌝ }
-{
-    if a < b { a } else { b }
-}
-
 // Internal: the table is well formed, and the designs have one length.
 pub fn kept(
     beta: f64,
@@ -164,7 +158,7 @@ pub fn kept(
     ensures { λ r. ⌜ (r .a ≡ dot (now (volumes .entry)) (seenDensity (At beta) (now (starts .entry)) (now (near .entry)) (now (coef .entry)) (now (passive .entry)) (now (x .entry)))) × (r .b ≡ dot (now (volumes .entry)) (seenDensity (At beta) (now (starts .entry)) (now (near .entry)) (now (coef .entry)) (now (passive .entry)) (now (y .entry)))) ⌝ }
 {
     let at = oc::seen::at_steepness(beta);
-    let n = shorter(volumes.len(), passive.len());
+    let n = lists::lesser(volumes.len(), passive.len());
     let mut sum = Two { a: 0.0, b: 0.0 };
     let mut e = 0usize;
     while e + 3usize < n {

@@ -13,7 +13,7 @@ pub fn apply() -> bool {
     counts(&mut near);
     floats(&mut coef);
     floats(&mut x);
-    table::apply(&starts, &near, &coef, &x, &mut out);
+    apply::apply(&starts, &near, &coef, &x, &mut out);
     are(&out)
 }
 
@@ -27,6 +27,6 @@ pub fn back() -> bool {
     counts(&mut near);
     floats(&mut coef);
     floats(&mut g);
-    table::back(&starts, &near, &coef, &g, &mut out);
+    back::back(&starts, &near, &coef, &g, &mut out);
     are(&out)
 }

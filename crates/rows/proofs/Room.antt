@@ -5,7 +5,7 @@ use native.Mathlib.Omega.{arith}
 use lib.Dec.{ltb}
 use borrow.Author.Tests.{ltb-false}
 use Rattle.lists.proofs.Laws.{passes-on, neither}
-use Rattle.rows.specs.Steps.{roomRefusal}
+use Rattle.filter.specs.Steps.{roomRefusal}
 
 pub has-room : (e end nears coefs : ℕ) → roomRefusal e end nears coefs ≡ 0 → (4 * (e + 2) + 12 * end ≤ 536870912) × (end ≤ nears) × (end ≤ coefs)
 has-room e end nears coefs h =

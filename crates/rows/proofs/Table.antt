@@ -14,7 +14,8 @@ use Rattle.lists.specs.Lists.{tabulate, overwrite, foldTo, overlay}
 use Rattle.lists.proofs.Laws.{choose-true, choose-false, length-tabulate, overwrite-more, overwrite-set}
 use Rattle.filter.specs.Filter.{joined, columns, neighbours, start, coefficient, coefficients}
 use Rattle.filter.specs.Build.{tooBig, tooShort, rowRefusal, rowsRefusal}
-use Rattle.rows.specs.Steps.{written, roomRefusal, Rowed, Filled}
+use Rattle.filter.specs.Steps.{roomRefusal}
+use Rattle.rows.specs.Steps.{written, Rowed, Filled}
 use Rattle.rows.proofs.Room.{has-room}
 
 -- ---- what is written from the end of what was laid is laid after it

@@ -2,7 +2,7 @@
 use mathlib.Core.Path.{_≡_, refl, sym, ap, _∙_}
 use mathlib.Core.Bool.{Bool, true, false}
 use mathlib.Core.Logic.{_⊎_, inl, inr, ⊎-elim}
-use mathlib.Core.List.{List, [], _∷_}
+use mathlib.Core.List.{List}
 use Prim.Native.Nat.{ℕ, zero, suc, _+_, _<_}
 use native.Mathlib.Nat.{not-suc-le-zero, eq-or-lt-of-le}
 use native.Mathlib.Omega.{arith}
@@ -11,7 +11,7 @@ use lib.Seq.{getD-set-same, getD-set-other}
 use lib.Dec.{eqb}
 use borrow.Author.Tests.{eqb-true, eqb-false}
 use lib.Ieee.{Float}
-use Rattle.lists.specs.Lists.{overwrite, foldTo, zero64}
+use Rattle.lists.specs.Lists.{foldTo, zero64}
 use Rattle.lists.proofs.Laws.{foldTo-none, foldTo-more}
 use Rattle.rows.specs.Steps.{written, cleared, Apart}
 
@@ -69,12 +69,6 @@ cleared-there found (suc k) l j d h b =
     (eq-or-lt-of-le (omega arith)))
     (eq-or-not (getD found j 0) (getD found k 0))
 
--- ---- a list overwritten by one value to its end
-
-pub overwrite-all : {A : Type 0} (z : A) (l : List A) → overwrite (λ _. z) (length l) l ≡ replicate (length l) z
-unfolding overwrite
-overwrite-all z [] = refl
-overwrite-all {A} z (x ∷ l) = ap (λ (r : List A). z ∷ r) (overwrite-all z l)
-
+-- a list of one value
 pub getD-zeros : {A : Type 0} (z d : A) (n : ℕ) (l : List A) (i : ℕ) → l ≡ replicate n z → i < n → getD l i d ≡ z
 getD-zeros {A} z d n l i e lt = ap (λ (r : List A). getD r i d) e ∙ getD-replicate n i z d lt

@@ -1,14 +1,13 @@
 -- What the steps of the code promise each other: rows written one after the other. What a caller must believe is said by `Build` of crate filter alone. Definitions only.
 use mathlib.Core.Path.{_≡_}
-use mathlib.Core.Bool.{_||_}
 use mathlib.Core.List.{List}
-use Prim.Native.Nat.{ℕ, _+_, _*_, _≤_, _<_}
+use Prim.Native.Nat.{ℕ, _+_, _≤_, _<_}
 use lib.ListN.{length, getD, set, take, drop}
-use lib.Dec.{ltb}
 use lib.Ieee.{Float, nan, binary64, mul, div}
-use Rattle.lists.specs.Lists.{overwrite, foldTo, sumTo, choose, zero64, overlay}
+use Rattle.lists.specs.Lists.{overwrite, foldTo, sumTo, zero64, overlay}
 use Rattle.filter.specs.Filter.{chosen, columns, coefficient, start, neighbours, coefficients}
 use Rattle.filter.specs.Build.{rowsRefusal}
+use Rattle.filter.specs.Steps.{roomRefusal}
 use Rattle.weights.specs.Steps.{stamped}
 
 -- no two of them hold the same number
@@ -33,10 +32,6 @@ pub record Written (at count : ℕ) (sum : Float) (found : List ℕ) (volumes we
   pub nears : near' ≡ written at (λ k. getD found k 0) count near
   pub coefs : coef' ≡ written at (λ k. div binary64 (productAt found weight volumes k) sum) count coef
   pub weights : weight' ≡ cleared found count weight
-
--- 13 and 14 of row e, which ends at `end`, of lists of so many places
-abbrev pub roomRefusal : ℕ → ℕ → ℕ → ℕ → ℕ
-roomRefusal e end nears coefs = choose (ltb 536870912 (4 * (e + 2) + 12 * end)) 13 (choose (ltb nears end || ltb coefs end) 14 0)
 
 -- the elements that bear the mark, as found, weighed by what stood in the weights
 pub record Settled (e at mark count : ℕ) (volumes : List Float) (stamp : List ℕ) (weight : List Float) (near : List ℕ) (coef : List Float) (number end : ℕ) (found : List ℕ) (weight' : List Float) (near' : List ℕ) (coef' : List Float) : Type 0 where

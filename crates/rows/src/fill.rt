@@ -39,9 +39,9 @@ pub fn fill_table(
         sorted,
         found,
     );
-    crate::zero::words(stamp);
-    crate::zero::floats(weight);
-    crate::zero::longs(bits);
+    zero::words(stamp);
+    zero::floats(weight);
+    zero::longs(bits);
     let g = Grid {
         lo,
         hi,

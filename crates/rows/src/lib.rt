@@ -3,4 +3,3 @@ mod entries;
 pub mod fill;
 mod row;
 mod rows;
-pub mod zero;

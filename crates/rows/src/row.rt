@@ -1,12 +1,12 @@
 // One row: the elements that it has met, put in order, tested for room, weighed and written.
 ghost use mathlib.Core.Path.{_≡_};
-ghost use Prim.Native.Nat.{_+_, _*_, _^_, _≤_, _<_};
+ghost use Prim.Native.Nat.{_+_, _^_, _≤_, _<_};
 ghost use lib.ListN.{length};
 ghost use Rattle.filter.specs.Filter.{chosen};
 ghost use Rattle.filter.specs.Group.{mirrors};
 ghost use Rattle.filter.specs.Planes.{mirrorsOf};
 ghost use Rattle.weights.specs.Steps.{stamped, Ready};
-ghost use Rattle.rows.specs.Steps.{roomRefusal, Settled, Clean, Rowed};
+ghost use Rattle.rows.specs.Steps.{Settled, Clean, Rowed};
 use filter::grid::Grid;
 use filter::group::Planes;
 
@@ -14,16 +14,6 @@ use filter::group::Planes;
 pub struct Row {
     pub number: u32,
     pub end: usize,
-}
-
-// 13 before 14: whether the table is too large with row e, which ends at `end`, or a list too short.
-fn room(e: usize, end: usize, nears: usize, coefs: usize) -> u32
-    requires { ⌜ (e < 2 ^ 32) × (end < 2 ^ 32) ⌝ }
-    ensures { λ r. ⌜ r ≡ roomRefusal e end nears coefs ⌝ }
-{
-    let big = 4 * (e + 2) + 12 * end > 536870912;
-    let short = (nears < end) | (coefs < end);
-    lists::first(big, 13, lists::first(short, 14, 0))
 }
 
 // The row's elements are those that bear the mark, `count` in all; its entries go from `at` on.
@@ -46,7 +36,7 @@ pub fn settle(
     ensures { λ r. ⌜ Settled e at mark count (now (volumes .entry)) (now (stamp .entry)) (now (weight .entry)) (now (near .entry)) (now (coef .entry)) (r .number) (r .end) (now (found .exit)) (now (weight .exit)) (now (near .exit)) (now (coef .exit)) ⌝ }
 {
     let end = at + count;
-    let number = room(e, end, near.len(), coef.len());
+    let number = filter::room::refusal(e, end, near.len(), coef.len());
     if number > 0 {
         return Row { number, end };
     }

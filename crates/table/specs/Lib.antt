@@ -1,4 +1,2 @@
--- `Table` has the filter's table, the two products with it, and the test that it is well formed; `Steps` has what the code's steps promise each other,
--- which no caller must believe.
-pub mod Steps
+-- `Table` has the filter's table, the two products with it, and the test that it is well formed.
 pub mod Table

@@ -90,23 +90,23 @@ pub fn wipe_work(
 )
     ensures { λ _. ⌜ Wiped (now (cell .entry)) (now (order .entry)) (now (first .entry)) (now (sorted .entry)) (now (stamp .entry)) (now (weight .entry)) (now (found .entry)) (now (bits .entry)) (now (cell .exit)) (now (order .exit)) (now (first .exit)) (now (sorted .exit)) (now (stamp .exit)) (now (weight .exit)) (now (found .exit)) (now (bits .exit)) ⌝ }
 {
-    rows::zero::cubes(cell);
-    rows::zero::words(order);
-    rows::zero::words(first);
-    rows::zero::points(sorted);
-    rows::zero::words(stamp);
-    rows::zero::floats(weight);
-    rows::zero::words(found);
-    rows::zero::longs(bits);
+    zero::cubes(cell);
+    zero::words(order);
+    zero::words(first);
+    zero::points(sorted);
+    zero::words(stamp);
+    zero::floats(weight);
+    zero::words(found);
+    zero::longs(bits);
 }
 
 // The three filter lists set to zero, to their ends.
 fn wipe_table(starts: &mut [u32], near: &mut [u32], coef: &mut [f64])
     ensures { λ _. ⌜ (now (starts .exit) ≡ replicate (length (now (starts .entry))) 0) × (now (near .exit) ≡ replicate (length (now (near .entry))) 0) × (now (coef .exit) ≡ replicate (length (now (coef .entry))) zero64) ⌝ }
 {
-    rows::zero::words(starts);
-    rows::zero::words(near);
-    rows::zero::floats(coef);
+    zero::words(starts);
+    zero::words(near);
+    zero::floats(coef);
 }
 
 // Builds the table: 0 where it is built, and 01's number where it is refused.

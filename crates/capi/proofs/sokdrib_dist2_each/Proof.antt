@@ -18,11 +18,11 @@ Inv-loop points triangles out₀ n k₀ out k = (k ≤ n) × (n ≡ min (min (le
 abbrev μ-loop : tie.MeasureT-loop
 μ-loop points triangles out₀ n k₀ out k = n - k
 
-shorter-requires : tie.Need-shorter-requires Inv-loop μ-loop
-shorter-requires c κs = search needs
+lesser-requires : tie.Need-lesser-requires Inv-loop μ-loop
+lesser-requires c κs = search needs
 
-shorter-requires-2 : tie.Need-shorter-requires-2 Inv-loop μ-loop
-shorter-requires-2 c κs = search needs
+lesser-requires-2 : tie.Need-lesser-requires-2 Inv-loop μ-loop
+lesser-requires-2 c κs = search needs
 
 loop-holds : tie.Need-loop-holds Inv-loop μ-loop
 loop-holds c = (search needs, search needs, refl, sym (overwrite-none _ _))
@@ -69,8 +69,8 @@ sokdrib-dist2-each-spec =
     (tie.spec
     Inv-loop
     μ-loop
-    shorter-requires
-    shorter-requires-2
+    lesser-requires
+    lesser-requires-2
     loop-holds
     mul-dist2-of
     shared-slice-copy-out-dist2-of

@@ -18,8 +18,8 @@ Inv-loop zs out₀ n i₀ out i = (i ≤ n) × (n ≡ min (length zs) (length ou
 abbrev μ-loop : tie.MeasureT-loop
 μ-loop zs out₀ n i₀ out i = n - i
 
-shorter-requires : tie.Need-shorter-requires Inv-loop μ-loop
-shorter-requires c κs = search needs
+lesser-requires : tie.Need-lesser-requires Inv-loop μ-loop
+lesser-requires c κs = search needs
 
 loop-holds : tie.Need-loop-holds Inv-loop μ-loop
 loop-holds c = (search needs, search needs, refl, sym (overwrite-none _ _))
@@ -60,7 +60,7 @@ sokdrib-tanh-each-spec =
     (tie.spec
     Inv-loop
     μ-loop
-    shorter-requires
+    lesser-requires
     loop-holds
     mul-tanh
     shared-slice-read-tanh

@@ -18,8 +18,8 @@ Inv-loop points from size cells₀ n i₀ cells i = (i ≤ n) × (length cells �
 abbrev μ-loop : tie.MeasureT-loop
 μ-loop points from size cells₀ n i₀ cells i = n - i
 
-fewer-requires : tie.Need-fewer-requires Inv-loop μ-loop
-fewer-requires c κs = search needs
+lesser-requires : tie.Need-lesser-requires Inv-loop μ-loop
+lesser-requires c κs = search needs
 
 loop-holds : tie.Need-loop-holds Inv-loop μ-loop
 loop-holds c = (search needs, refl, sym (overwrite-none _ _))
@@ -65,13 +65,13 @@ unfolding cellOf
 loop-again c = let l = c .before .before .before .before .before .loop in
     let e : (c .before .before .cell-of .result ∷ c .before .cell-of2 .result ∷ c .cell-of3 .result ∷ []) ≡ cellOf (getD (c .before .before .before .before .before .before .before .args .points .now) (l .i) []) (c .before .before .before .before .before .before .before .args .from) (c .before .before .before .before .before .before .before .args .size) =
     rw (c .before .before .cell-of .ensures, c .before .cell-of2 .ensures, c .cell-of3 .ensures) in
-    (search needs, simp length-set (l .inv .1), ap (set (l .cells) (l .i)) e ∙ rw (l .inv .2) (overwrite-more _ _ _ (omega (arith, c .before .before .before .before .before .before .fewer .ensures))))
+    (search needs, simp length-set (l .inv .1), ap (set (l .cells) (l .i)) e ∙ rw (l .inv .2) (overwrite-more _ _ _ (omega (arith, c .before .before .before .before .before .before .lesser .ensures))))
 
 same-length : tie.Need-same-length Inv-loop μ-loop
 same-length c = c .before .loop .inv .1
 
 returns : tie.Need-returns Inv-loop μ-loop
-returns c = cc (c .before .loop .inv .2, le-antisymm (c .before .loop .inv .0) (c .loop-test .left), c .before .before .fewer .ensures)
+returns c = cc (c .before .loop .inv .2, le-antisymm (c .before .loop .inv .0) (c .loop-test .left), c .before .before .lesser .ensures)
 
 pub cells-of-spec : {M : Type 1} → statement M
 cells-of-spec =
@@ -79,7 +79,7 @@ cells-of-spec =
     (tie.spec
     Inv-loop
     μ-loop
-    fewer-requires
+    lesser-requires
     loop-holds
     mul-p
     shared-slice-copy-out-p

@@ -28,8 +28,8 @@ abbrev μ-loop2 : tie.MeasureT-loop2
 at-steepness-requires : tie.Need-at-steepness-requires Inv-loop μ-loop Inv-loop2 μ-loop2
 at-steepness-requires c κs = search needs
 
-shorter-requires : tie.Need-shorter-requires Inv-loop μ-loop Inv-loop2 μ-loop2
-shorter-requires c κs = search needs
+lesser-requires : tie.Need-lesser-requires Inv-loop μ-loop Inv-loop2 μ-loop2
+lesser-requires c κs = search needs
 
 loop-holds : tie.Need-loop-holds Inv-loop μ-loop Inv-loop2 μ-loop2
 loop-holds c = (search needs, sym (sumTo-none _), sym (sumTo-none _))
@@ -42,7 +42,7 @@ four-requires c κs =
     let s = c .before .before .before .before .before .before .before .before .before .before .before in
     let a = s .args in
     let e = c .before .before .before .«at-steepness» .ensures in
-    let n = c .before .before .shorter .ensures in
+    let n = c .before .before .lesser .ensures in
     let l = c .before .loop in (
       (e .1 ∙ ap belowOf (sym (e .0)), e .2 ∙ ap wholeOf (sym (e .0))),
       (
@@ -78,7 +78,7 @@ one-requires c κs =
     let s = c .before .before .before .before .before .before .before .before .before .before .before .before .before in
     let a = s .args in
     let e = c .before .before .before .before .before .«at-steepness» .ensures in
-    let n = c .before .before .before .before .shorter .ensures in
+    let n = c .before .before .before .before .lesser .ensures in
     let l = c .before .loop2 in (
       (e .1 ∙ ap belowOf (sym (e .0)), e .2 ∙ ap wholeOf (sym (e .0))),
       (
@@ -110,7 +110,7 @@ returns : tie.Need-returns Inv-loop μ-loop Inv-loop2 μ-loop2
 returns c =
     let a = c .before .before .before .before .before .before .before .before .before .before .before .before .before .args in
     let l = c .before .loop2 in
-    let n = le-antisymm (l .inv .0) (omega arith) ∙ c .before .before .before .before .shorter .ensures in (
+    let n = le-antisymm (l .inv .0) (omega arith) ∙ c .before .before .before .before .lesser .ensures in (
       l .inv .1 ∙ ap (sumTo _) n ∙ parts-are (a .beta) (now (a .starts)) (now (a .near)) (now (a .coef)) (now (a .volumes)) (now (a .passive)) (now (a .x)),
       l .inv .2 ∙ ap (sumTo _) n ∙ parts-are (a .beta) (now (a .starts)) (now (a .near)) (now (a .coef)) (now (a .volumes)) (now (a .passive)) (now (a .y)),
     )
@@ -124,7 +124,7 @@ kept-spec =
     Inv-loop2
     μ-loop2
     at-steepness-requires
-    shorter-requires
+    lesser-requires
     loop-holds
     add-loop
     four-requires

@@ -18,8 +18,8 @@ Inv-loop next x m₀ n i₀ m i = (i ≤ n) × (m ≡ foldTo (λ k m. maxOf m (a
 abbrev μ-loop : tie.MeasureT-loop
 μ-loop next x m₀ n i₀ m i = n - i
 
-shorter-requires : tie.Need-shorter-requires Inv-loop μ-loop
-shorter-requires c κs = search needs
+lesser-requires : tie.Need-lesser-requires Inv-loop μ-loop
+lesser-requires c κs = search needs
 
 loop-holds : tie.Need-loop-holds Inv-loop μ-loop
 loop-holds c = (search needs, sym (foldTo-none _ _))
@@ -53,7 +53,7 @@ loop-again c = (search needs, rw (c .max .ensures, c .before .abs .ensures, c .b
 
 returns : tie.Need-returns Inv-loop μ-loop
 unfolding changeOf
-returns c = cc (c .before .before .shorter .ensures, le-antisymm (c .before .loop .inv .0) (c .loop-test .left))
+returns c = cc (c .before .before .lesser .ensures, le-antisymm (c .before .loop .inv .0) (c .loop-test .left))
 
 pub change-spec : {M : Type 1} → statement M
 change-spec =
@@ -61,7 +61,7 @@ change-spec =
     (tie.spec
     Inv-loop
     μ-loop
-    shorter-requires
+    lesser-requires
     loop-holds
     mul-abs
     shared-slice-read-abs

@@ -17,8 +17,8 @@ Inv-loop a b t₀ n i₀ t i = (i ≤ n) × (t ≡ sumTo (λ k. mul binary64 (ge
 abbrev μ-loop : tie.MeasureT-loop
 μ-loop a b t₀ n i₀ t i = n - i
 
-shorter-requires : tie.Need-shorter-requires Inv-loop μ-loop
-shorter-requires c κs = search needs
+lesser-requires : tie.Need-lesser-requires Inv-loop μ-loop
+lesser-requires c κs = search needs
 
 loop-holds : tie.Need-loop-holds Inv-loop μ-loop
 loop-holds c = (search needs, sym (sumTo-none _))
@@ -46,7 +46,7 @@ loop-again c = (search needs, rw (c .before .before .before .loop .inv .1) (sumT
 
 returns : tie.Need-returns Inv-loop μ-loop
 unfolding dot
-returns c = cc (c .before .before .shorter .ensures, le-antisymm (c .before .loop .inv .0) (c .loop-test .left))
+returns c = cc (c .before .before .lesser .ensures, le-antisymm (c .before .loop .inv .0) (c .loop-test .left))
 
 pub dot-spec : {M : Type 1} → statement M
 dot-spec =
@@ -54,7 +54,7 @@ dot-spec =
     (tie.spec
     Inv-loop
     μ-loop
-    shorter-requires
+    lesser-requires
     loop-holds
     mul-t
     shared-slice-read-t

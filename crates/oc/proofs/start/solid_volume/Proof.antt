@@ -18,8 +18,8 @@ Inv-loop volumes passive t₀ n i₀ t i = (i ≤ n) × (t ≡ foldTo (λ k t. c
 abbrev μ-loop : tie.MeasureT-loop
 μ-loop volumes passive t₀ n i₀ t i = n - i
 
-shorter-requires : tie.Need-shorter-requires Inv-loop μ-loop
-shorter-requires c κs = search needs
+lesser-requires : tie.Need-lesser-requires Inv-loop μ-loop
+lesser-requires c κs = search needs
 
 loop-holds : tie.Need-loop-holds Inv-loop μ-loop
 loop-holds c = (search needs, sym (foldTo-none _ _))
@@ -47,7 +47,7 @@ loop-again c = (search needs, rw (c .either .ensures, c .before .before .before 
 
 returns : tie.Need-returns Inv-loop μ-loop
 unfolding solidVolume
-returns c = cc (c .before .before .shorter .ensures, le-antisymm (c .before .loop .inv .0) (c .loop-test .left))
+returns c = cc (c .before .before .lesser .ensures, le-antisymm (c .before .loop .inv .0) (c .loop-test .left))
 
 pub solid-volume-spec : {M : Type 1} → statement M
 solid-volume-spec =
@@ -55,7 +55,7 @@ solid-volume-spec =
     (tie.spec
     Inv-loop
     μ-loop
-    shorter-requires
+    lesser-requires
     loop-holds
     shared-slice-read-either
     mul-either

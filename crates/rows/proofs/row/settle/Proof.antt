@@ -19,11 +19,11 @@ few c = omega (arith, c .pre .1 .1, chosen-le (stamped (now (c .args .stamp)) (c
 add-end : tie.Need-add-end
 add-end c = omega (arith, few (c .before .before .before .before .before .before .before), c .before .before .before .before .before .before .before .pre .0)
 
-room-requires : tie.Need-room-requires
-room-requires c κs = (omega (arith, c .before .before .before .before .before .before .before .pre .0 .1), omega (arith, few (c .before .before .before .before .before .before .before), c .before .before .before .before .before .before .before .pre .0))
+refusal-requires : tie.Need-refusal-requires
+refusal-requires c κs = (omega (arith, c .before .before .before .before .before .before .before .pre .0 .1), omega (arith, few (c .before .before .before .before .before .before .before), c .before .before .before .before .before .before .before .pre .0))
 
 returns : tie.Need-returns
-returns c = record { ends = refl; numbers = c .before .room .ensures; all = λ e. absurd (omega (arith, c .if1 .taken)); writes = λ e. absurd (omega (arith, c .if1 .taken)) }
+returns c = record { ends = refl; numbers = c .before .refusal .ensures; all = λ e. absurd (omega (arith, c .if1 .taken)); writes = λ e. absurd (omega (arith, c .if1 .taken)) }
 
 enumerate-requires : tie.Need-enumerate-requires
 enumerate-requires c κs = search needs
@@ -40,7 +40,7 @@ put-row-requires c κs = let s = c .before .before .before .before .before .befo
     let is = c .before .before .before .before .before .before .before .before .before .before .before .enumerate .ensures in
     let p = stamped (now (a .stamp)) (a .mark) in
     let n = length (now (a .stamp)) in
-    let fit = has-room (a .e) (a .at + a .count) (length (now (a .near))) (length (now (a .coef))) (sym (c .before .before .before .before .before .before .before .before .before .before .before .before .before .before .before .room .ensures) ∙ omega (arith, c .before .before .before .before .before .before .before .before .before .before .before .before .before .before .if1 .left)) in
+    let fit = has-room (a .e) (a .at + a .count) (length (now (a .near))) (length (now (a .coef))) (sym (c .before .before .before .before .before .before .before .before .before .before .before .before .before .before .before .refusal .ensures) ∙ omega (arith, c .before .before .before .before .before .before .before .before .before .before .before .before .before .before .if1 .left)) in
     ((rw (s .pre .1 .0 .2) (within-found p n found (a .count) is (s .pre .1 .1)), found-rising p n found (a .count) is (s .pre .1 .1) .rises, s .pre .1 .0 .2 ∙ sym (s .pre .1 .0 .3)), (fit .1, fit .2))
 
 same-length : tie.Need-same-length
@@ -61,14 +61,14 @@ same-length-5 c = search needs
 returns-2 : tie.Need-returns-2
 returns-2 c = let s = c .before .before .before .before .before .before .before .before .before .before .before .before .before .before .before .before .before .before .before .before .before .before .before .before .before .before .before .before .before .before in
     let a = s .args in
-    record { ends = refl; numbers = c .before .before .before .before .before .before .before .before .before .before .before .before .before .before .before .before .before .before .before .before .before .before .room .ensures; all = λ e. c .before .before .before .before .before .before .before .before .before .before .before .before .before .before .before .before .before .before .enumerate .ensures; writes = λ e. rw (sym (c .before .before .before .before .before .before .before .before .before .before .before .sum-row .ensures)) (c .before .before .before .before .before .before .put-row .ensures) }
+    record { ends = refl; numbers = c .before .before .before .before .before .before .before .before .before .before .before .before .before .before .before .before .before .before .before .before .before .before .refusal .ensures; all = λ e. c .before .before .before .before .before .before .before .before .before .before .before .before .before .before .before .before .before .before .enumerate .ensures; writes = λ e. rw (sym (c .before .before .before .before .before .before .before .before .before .before .before .sum-row .ensures)) (c .before .before .before .before .before .before .put-row .ensures) }
 
 pub settle-spec : {M : Type 1} → statement M
 settle-spec =
     tie.close
     (tie.spec
     add-end
-    room-requires
+    refusal-requires
     returns
     enumerate-requires
     sum-row-requires
