@@ -177,7 +177,7 @@ pub extern "C" fn sokdrib_work_slope(
     if refused != 0 {
         return refused;
     }
-    oc::slopes::work_slope(
+    slopes::work_slope(
         starts,
         near,
         coef,
@@ -212,7 +212,7 @@ pub extern "C" fn sokdrib_volume_slope(
     if refused != 0 {
         return refused;
     }
-    oc::slopes::volume_slope(
+    slopes::volume_slope(
         starts,
         near,
         coef,

@@ -4,5 +4,4 @@
 pub mod kept;
 pub mod record;
 pub mod seen;
-pub mod slopes;
 pub mod start;

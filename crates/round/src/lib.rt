@@ -119,9 +119,9 @@ fn volume_slopes(
     ensures { λ _. ⌜ now (dv .exit) ≡ choose sharpen (volumeSlope (now (starts .entry)) (now (near .entry)) (now (coef .entry)) (now (slope .entry)) (now (free .entry))) (straightSlope (now (starts .entry)) (now (near .entry)) (now (coef .entry)) (now (free .entry))) ⌝ }
 {
     if sharpen {
-        oc::slopes::volume_slope(starts, near, coef, slope, free, spare, dv);
+        slopes::volume_slope(starts, near, coef, slope, free, spare, dv);
     } else {
-        oc::slopes::straight_slope(starts, near, coef, free, dv);
+        slopes::straight_slope(starts, near, coef, free, dv);
     }
 }
 
@@ -146,7 +146,7 @@ fn slopes_into(
     ensures { λ _. ⌜ SlopesInto sharpen beta (now (energies .entry)) (now (passive .entry)) (now (starts .entry)) (now (near .entry)) (now (coef .entry)) (now (density .entry)) (now (x .entry)) (now (free .entry)) (now (dc .exit)) (now (dv .exit)) ⌝ }
 {
     slopes(sharpen, beta, starts, near, coef, passive, x, spare, slope);
-    oc::slopes::work_slope(
+    slopes::work_slope(
         starts,
         near,
         coef,

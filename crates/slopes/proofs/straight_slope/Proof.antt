@@ -1,10 +1,10 @@
--- `oc::slopes::straight_slope` meets its contract by that of `table::back`. Assumes nothing.
+-- `slopes::straight_slope` meets its contract by that of `back::back`. Assumes nothing.
 use mathlib.Core.Path.{ap, _∙_}
 use Rattle.table.specs.Table.{backed}
 use Rattle.oc.specs.Slopes.{straightSlope}
 use borrow.Author.Needs.{needs}
-use Rattle.oc.proofs.slopes.straight_slope.Statement.{statement}
-use Rattle.oc.proofs.slopes.straight_slope.Tie as tie
+use Rattle.slopes.proofs.straight_slope.Statement.{statement}
+use Rattle.slopes.proofs.straight_slope.Tie as tie
 
 back-requires : tie.Need-back-requires
 back-requires c κs = search needs

@@ -1,9 +1,9 @@
--- `oc::slopes::work_slope` meets its contract by those of its two stages. Assumes nothing.
+-- `slopes::work_slope` meets its contract by those of its two stages. Assumes nothing.
 use native.Mathlib.Omega.{arith}
 use Rattle.oc.proofs.Laws.{work-is}
 use borrow.Author.Needs.{needs}
-use Rattle.oc.proofs.slopes.work_slope.Statement.{statement}
-use Rattle.oc.proofs.slopes.work_slope.Tie as tie
+use Rattle.slopes.proofs.work_slope.Statement.{statement}
+use Rattle.slopes.proofs.work_slope.Tie as tie
 
 work-by-density-requires : tie.Need-work-by-density-requires
 work-by-density-requires c κs = search needs

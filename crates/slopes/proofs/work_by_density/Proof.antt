@@ -1,4 +1,4 @@
--- `oc::slopes::work_by_density` meets its contract: the places passed are filled. Assumes nothing.
+-- `slopes::work_by_density` meets its contract: the places passed are filled. Assumes nothing.
 use borrow.Author.Needs.{needs}
 use mathlib.Core.Path.{_≡_, refl, sym, ap, _∙_}
 use mathlib.Core.Bool.{false}
@@ -8,10 +8,10 @@ use lib.ListN.{length, getD}
 use lib.Ieee.{nan}
 use Rattle.lists.specs.Lists.{overwrite, choose, zero64}
 use Rattle.lists.proofs.Laws.{overwrite-none}
 use Rattle.oc.specs.Slopes.{elementWork, workByDensity}
 use Rattle.oc.proofs.Filled.{stored, filled}
-use Rattle.oc.proofs.slopes.work_by_density.Statement.{statement}
-use Rattle.oc.proofs.slopes.work_by_density.Tie as tie
+use Rattle.slopes.proofs.work_by_density.Statement.{statement}
+use Rattle.slopes.proofs.work_by_density.Tie as tie
 
 abbrev Inv-loop : tie.InvT-loop
 Inv-loop passive density slope energies out₀ i₀ out i = (i ≤ length passive) × (length out ≡ length out₀) × (out ≡ overwrite (λ e. choose (getD passive e false) zero64 (elementWork (getD density e nan) (getD slope e nan) (getD energies e nan))) i out₀)

@@ -1,8 +1,8 @@
--- `oc::slopes::element_work` meets its contract by those of the level and its modulus. Assumes nothing.
+-- `slopes::element_work` meets its contract by those of the level and its modulus. Assumes nothing.
 use Rattle.oc.specs.Slopes.{elementWork}
 use borrow.Author.Needs.{needs}
-use Rattle.oc.proofs.slopes.element_work.Statement.{statement}
-use Rattle.oc.proofs.slopes.element_work.Tie as tie
+use Rattle.slopes.proofs.element_work.Statement.{statement}
+use Rattle.slopes.proofs.element_work.Tie as tie
 
 level-of-requires : tie.Need-level-of-requires
 level-of-requires c κs = search needs

@@ -1,4 +1,4 @@
--- `oc::slopes::volume_by_density` meets its contract: the places passed are filled. Assumes nothing.
+-- `slopes::volume_by_density` meets its contract: the places passed are filled. Assumes nothing.
 use borrow.Author.Needs.{needs}
 use mathlib.Core.Path.{_≡_, refl, sym}
 use Prim.Native.Nat.{_-_, _≤_}
@@ -7,10 +7,10 @@ use lib.ListN.{length, getD}
 use lib.Ieee.{nan, binary64, mul}
 use Rattle.lists.specs.Lists.{overwrite}
 use Rattle.lists.proofs.Laws.{overwrite-none}
 use Rattle.oc.specs.Slopes.{volumeByDensity}
 use Rattle.oc.proofs.Filled.{stored, filled}
-use Rattle.oc.proofs.slopes.volume_by_density.Statement.{statement}
-use Rattle.oc.proofs.slopes.volume_by_density.Tie as tie
+use Rattle.slopes.proofs.volume_by_density.Statement.{statement}
+use Rattle.slopes.proofs.volume_by_density.Tie as tie
 
 abbrev Inv-loop : tie.InvT-loop
 Inv-loop slope free out₀ i₀ out i = (i ≤ length slope) × (length out ≡ length out₀) × (out ≡ overwrite (λ e. mul binary64 (getD slope e nan) (getD free e nan)) i out₀)

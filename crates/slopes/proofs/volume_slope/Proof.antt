@@ -1,9 +1,9 @@
--- `oc::slopes::volume_slope` meets its contract by those of its two stages. Assumes nothing.
+-- `slopes::volume_slope` meets its contract by those of its two stages. Assumes nothing.
 use native.Mathlib.Omega.{arith}
 use Rattle.oc.proofs.Laws.{volume-is}
 use borrow.Author.Needs.{needs}
-use Rattle.oc.proofs.slopes.volume_slope.Statement.{statement}
-use Rattle.oc.proofs.slopes.volume_slope.Tie as tie
+use Rattle.slopes.proofs.volume_slope.Statement.{statement}
+use Rattle.slopes.proofs.volume_slope.Tie as tie
 
 volume-by-density-requires : tie.Need-volume-by-density-requires
 volume-by-density-requires c κs = search needs
