@@ -67,7 +67,7 @@ pub fn solve(
 {
     let n = state.elements;
     let e = state.entries;
-    round::copy(&density[..n], &mut last[..n]);
+    step::copy(&density[..n], &mut last[..n]);
     round::solve(
         state.rounds + 1usize,
         state.stage,

@@ -160,17 +160,6 @@ fn slopes_into(
     volume_slopes(sharpen, starts, near, coef, &slope[..], free, spare, dv);
 }
 
-pub fn copy(from: &[f64], to: &mut [f64])
-    requires { ⌜ length (now to) ≡ length (now from) ⌝ }
-    ensures { λ _. ⌜ now (to .exit) ≡ now (from .entry) ⌝ }
-{
-    let mut i = 0usize;
-    while i < from.len() {
-        to[i] = from[i];
-        i += 1usize;
-    }
-}
-
 // The densities that a round is asked with. `spare` is for the call's own use.
 pub fn ask(
     sharpen: bool,
@@ -254,7 +243,7 @@ pub fn solve(
         spare,
     );
     let change = oc::record::change(&slope[..], &design[..]);
-    copy(&slope[..], design);
+    step::copy(&slope[..], design);
     Iteration {
         number,
         compliance: oc::record::compliance(energies),
