@@ -14,7 +14,7 @@ use lib.Ieee.Nearest.{div-same}
 use lib.Ieee.Exact.{HasValue, round-exact}
 use lib.Ieee.Back.{round-whole}
 use borrow.Author.Tests.{ltb-true, ltb-false}
-use Rattle.ieee.specs.Whole.{roundHalfAway}
+use Rattle.ieee.specs.Whole.{roundHalfAway, NearestWhole, RoundedHalfAway}
 use Rattle.ieee.proofs.Comparing.{never, holds, le-positive, digits}
 
 abbrev Z : Float
@@ -174,3 +174,30 @@ bounded (fin false m e) z k v t =
 pub round-le : (x : Float) (k : ℕ) → k ≤ 2 ^ 53 → T (le x (ofInt binary64 (pos k))) → roundHalfAway x ≤ k
 unfolding ofInt
 round-le x k h t = bounded x (round binary64 false k 1) k (round-whole binary64 false k h) t
+
+-- the nearest whole number, a half away from zero, as far as a `u64` reaches
+pub round-ieee : RoundedHalfAway
+unfolding roundHalfAway
+round-ieee = record {
+  of-nan = refl;
+  of-infinity = refl;
+  of-minus-infinity = refl;
+  of-negative = λ m e. refl;
+  of-number = λ m e h. number (m * up e) (down e) (down-pos e) h;
+  of-large = λ m e h. large (m * up e) (down e) (down-pos e) h;
+}
+  where
+    near : (a c q : ℕ) → q * (2 * c) ≤ 2 * a + c → 2 * a + c < (q + 1) * (2 * c) → NearestWhole a c q
+    near a c q l u = record { low = omega (arith, mul-right-comm 2 q c, mul-assoc q 2 c, mul-comm q 2, l); high = omega arith }
+
+    number : (a c : ℕ) → 0 < c → a < (2 ^ 64 - 1) * c → NearestWhole a c (min ((2 * a + c) / (2 * c)) (2 ^ 64 - 1))
+    number a c p l =
+        let q = (2 * a + c) / (2 * c) in
+        let s : q < 2 ^ 64 = div-lt-iff-lt-mul {k = 2 * c} {x = 2 * a + c} {y = 2 ^ 64} (omega arith) .1 (omega arith) in
+        let e : q ≡ min q (2 ^ 64 - 1) = omega (arith, s) in
+        subst (λ (r : ℕ). NearestWhole a c r) e (near a c q (le-div-iff-mul-le {k = 2 * c} {x = q} {y = 2 * a + c} (omega arith) .0 (omega arith)) (div-lt-iff-lt-mul {k = 2 * c} {x = 2 * a + c} {y = q + 1} (omega arith) .0 (omega arith)))
+
+    large : (a c : ℕ) → 0 < c → (2 ^ 64 - 1) * c ≤ a → min ((2 * a + c) / (2 * c)) (2 ^ 64 - 1) ≡ 2 ^ 64 - 1
+    large a c p l =
+        let g : 2 ^ 64 - 1 ≤ (2 * a + c) / (2 * c) = le-div-iff-mul-le {k = 2 * c} {x = 2 ^ 64 - 1} {y = 2 * a + c} (omega arith) .1 (omega arith) in
+        omega (arith, g)

@@ -2,8 +2,10 @@
 -- The result is the exact root, rounded once to the nearest value.
 -- A root that is not exact has more digits than a format keeps and is never half way between two values, so no tie arises.
 -- A nan, and a number below zero, have the root nan; a zero is its own root, sign and all; and the infinity above is its own.
+use mathlib.Core.Path.{_≡_}
 use Prim.Native.Nat.{ℕ, zero, suc, _+_, _-_, _*_, _/_, _^_, _<_, compare}
-use mathlib.Core.Bool.{true, false, cond}
+use mathlib.Core.Bool.{Bool, true, false, cond}
+use lib.IntN.{ℤ}
 use lib.Dec.{T, leb}
 use lib.Ieee.{Float, nan, inf, fin, Format, prec, low, up, down, size, nearest, units, fits}
 use lib.Ieee.Exact.{HasValue}
@@ -44,11 +46,36 @@ pub record Held (f : Format) (y : Float) (b : ℕ) : Type 0 where
   pub fit : T (fits f y)
   pub value : HasValue y false b (2 ^ low f)
 
+-- y is a whole number of smallest values, with the sign s
+pub record Measured (f : Format) (y : Float) (s : Bool) : Type 0 where
+  pub b : ℕ
+  pub value : HasValue y s b (2 ^ low f)
+
 -- r is the value of f nearest to the root of v smallest values squared, and no other is as near. With r of n smallest values and y of b, r is the nearer where the root lies
 -- on r's side of the middle (n + b) / 2: below it where y is above r, and above it where y is below r. The doubles' squares say so: 4 * v and (n + b) * (n + b).
--- No other y need be asked: a number below zero is farther than its opposite, an infinity farther than any number, and nan is none.
+-- Numbers below zero are in `RootOf`; an infinity is farther than any number, and nan is none.
 pub record Nearest (f : Format) (v : ℕ) (r : Float) : Type 0 where
   pub n : ℕ
   pub held : Held f r n
   pub over : (y : Float) (b : ℕ) → Held f y b → n < b → 4 * v < (n + b) * (n + b)
   pub under : (y : Float) (b : ℕ) → Held f y b → b < n → (n + b) * (n + b) < 4 * v
+
+-- x is a number above 0, of a smallest values, and r is nearer to its root than any other number of the format: those with no minus sign by `root`, and −b by `opposite`, since
+-- |√v − n| < √v + b where n − b < 2·√v
+pub record RootOf (f : Format) (x r : Float) : Type 0 where
+  pub a : ℕ
+  pub some : 0 < a
+  pub held : Held f x a
+  pub root : Nearest f (a * 2 ^ low f) r
+  pub opposite : (b : ℕ) → 0 < b → (root .n - b) * (root .n - b) < 4 * (a * 2 ^ low f)
+
+-- IEEE 754's squareRoot, for every value that the format holds: the law `sqrt-ieee` says this of `sqrtOf`
+pub record SquareRoot (f : Format) : Type 0 where
+  pub of-nan : sqrtOf f nan ≡ nan
+  pub of-infinity : sqrtOf f (inf false) ≡ inf false
+  pub of-minus-infinity : sqrtOf f (inf true) ≡ nan
+  pub of-zero : (s : Bool) (e : ℤ) → sqrtOf f (fin s 0 e) ≡ fin s 0 e
+  pub of-negative : (m : ℕ) (e : ℤ) → sqrtOf f (fin true (suc m) e) ≡ nan
+  pub of-positive : (m : ℕ) (e : ℤ) → T (fits f (fin false (suc m) e)) → RootOf f (fin false (suc m) e) (sqrtOf f (fin false (suc m) e))
+  -- no number of the format is left out of the comparison: each is a whole number of smallest values, with its sign
+  pub every : (s : Bool) (m : ℕ) (e : ℤ) → T (fits f (fin s m e)) → Measured f (fin s m e) s
