@@ -1,5 +1,6 @@
 // mod.rs: the optimiser's constants, its goal and records, and the stiffness levels that the solver is asked for.
 ghost use mathlib.Core.Path.{_≡_};
+ghost use mathlib.Core.Bool.{true};
 ghost use Rattle.topo.specs.Levels.{modulusOf, levelOf};
 
 // How many stiffness levels the solver is given: level 0 is the floor, 1000 the material itself.
@@ -85,4 +86,19 @@ pub fn level_of(x: f64) -> u16
     ensures { λ r. ⌜ r ≡ levelOf x ⌝ }
 {
     ieee::whole::round_half_away(ieee::clamp(x) * (LEVELS as f64)) as u16
+}
+
+// The constants of mod.rs that no other function looks at, held to their values.
+fn constants() -> bool
+    ensures { λ r. ⌜ r ≡ true ⌝ }
+{
+    (DAMPING == 0.5)
+        & (STAGES[0] == 1.0)
+        & (STAGES[1] == 2.0)
+        & (STAGES[2] == 4.0)
+        & (STAGES[3] == 8.0)
+        & (STAGES[4] == 16.0)
+        & (STAGE_ITERATIONS == 20)
+        & (LEVEL_OFF_RUN == 5)
+        & (MAX_SHAPE_NODES == 100_000)
 }
