@@ -4,4 +4,5 @@ pub mod Loops
 pub mod Search
 pub mod Bounds
 pub mod Passes
+pub mod Tried
 pub mod Cases
