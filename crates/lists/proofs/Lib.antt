@@ -1,2 +1,3 @@
--- `Laws` has the laws of `specs/Lists.antt`, for this crate's proofs and those of the crates that link it.
+-- `Laws` has the laws of `specs/Lists.antt`, for this crate's proofs and those of the crates that link it. `Mapped` has those of `map` and of a place past the end.
 pub mod Laws
+pub mod Mapped

@@ -1,22 +1,47 @@
 -- Demand 3, of the calls: what they show is what the plain run shows, and so what holds of every plain run holds of them. Assumes nothing.
-use mathlib.Core.Path.{_≡_, sym, subst}
-use mathlib.Core.List.{List, map}
-use Rattle.plain.specs.declared.Entry.the-variants.{Opens}
-use Rattle.plain.specs.Lent.{Sizes}
-use Rattle.plain.specs.Opening.{entryOf}
-use Rattle.plain.specs.Plain.{plainRun, plainStart, runFrom}
-use Rattle.plain.specs.Calls.{Asked, World, Call, openingOf, lend, callsRun, fed, NoRun, worldOpen, worldFrom}
-use Rattle.plain.proofs.Whole.{whole, Stands, opened-stands, refused-stands}
-use Rattle.plain.proofs.Runs.{Opened, opened-run}
-
--- for every opening on a state with no run open and every list of answers: `same` is the whole claim, the others what follows from it
-pub record Demand (w : World) (k : Sizes) (g : Asked) (more : List Call) : Type 0 where
-  pub same : callsRun w k g more ≡ plainRun (openingOf g (k .work) (lend k (w .lists))) (map (fed (w .lists)) more)
-  pub opened : entryOf (openingOf g (k .work) (lend k (w .lists))) ≡ Opens → Opened (openingOf g (k .work) (lend k (w .lists))) (callsRun w k g more)
-  pub stands : entryOf (openingOf g (k .work) (lend k (w .lists))) ≡ Opens → Stands (worldFrom (worldOpen w k g) more) (runFrom (plainStart (openingOf g (k .work) (lend k (w .lists)))) (map (fed (w .lists)) more))
-  pub refused : (entryOf (openingOf g (k .work) (lend k (w .lists))) ≡ Opens → ⊥) → NoRun (worldFrom (worldOpen w k g) more .state)
+use mathlib.Core.Path.{_≡_, refl, sym, ap, _∙_, subst}
+use mathlib.Core.Bool.{true}
+use mathlib.Core.List.{List}
+use Prim.Native.Nat.{ℕ}
+use Rattle.lists.specs.Lists.{choose}
+use Rattle.plain.specs.declared.State.{State}
+use Rattle.plain.specs.Lent.{Sizes, answerShort}
+use Rattle.plain.specs.Plain.{Part, nothing, solid, round, Checks, judged}
+use Rattle.plain.specs.Runs.{recordedIn}
+use Rattle.plain.specs.Calls.{Lists, Told, Result, sizesOf, partOf, checksAt, answerBy, answerOf, Asked, World, Call, NoRun}
+use Rattle.plain.specs.Demand.{OpenedRun, AnyPart, Demand}
+use Rattle.plain.proofs.Whole.{whole, opened-stands, refused-stands}
+use Rattle.plain.proofs.Runs.{opened-run}
+use Rattle.plain.proofs.Begun.{begun-twenty}
+use Rattle.plain.proofs.Made.{made-recorded}
+use Rattle.plain.proofs.Ends.{opened-ends}
 
 pub demand : (w : World) (k : Sizes) (g : Asked) (more : List Call) → NoRun (w .state) → Demand w k g more
 demand w k g more h =
     let e = whole w k g more h in
-    record { same = e; opened = λ z. subst (Opened _) (sym e) (opened-run _ _ z); stands = opened-stands w k g more h; refused = refused-stands w k g more h }
+    record {
+      same = e;
+      opened = λ z. subst (OpenedRun _) (sym e) (opened-run _ _ z);
+      stands = opened-stands w k g more h;
+      twenty = λ z. begun-twenty _ _ z;
+      made = λ z. made-recorded _ _ ∙ ap recordedIn (sym (opened-stands w k g more h z .records));
+      ends = λ z c. opened-ends w k g more c h z;
+      refused = refused-stands w k g more h;
+    }
+
+-- ---- a list lent too short
+module _ (s : State) (a : Told) (l l′ : Lists) where
+  -- both are refused with 20, or both with 14
+  short-keeps : (p : Part) (c c′ : Checks) → c .short ≡ true → c′ .short ≡ true
+      → (answerBy s a l′ (judged p c′) .reply ≡ answerBy s a l (judged p c) .reply) × (answerBy s a l′ (judged p c′) .state ≡ s) × (answerBy s a l′ (judged p c′) .lists ≡ l′)
+  unfolding judged choose
+  short-keeps nothing c c′ e e′ = (refl, refl, refl)
+  short-keeps solid c c′ e e′ = rw (e, e′) (refl, refl, refl)
+  short-keeps (round n) c c′ e e′ = rw (e, e′) (refl, refl, refl)
+
+  pub any-part : (work : List ℕ) → sizesOf work l′ ≡ sizesOf work l → answerShort (s .elements) (s .entries) (s .«max_iterations») (sizesOf work l) ≡ true → AnyPart s a work l l′
+  unfolding answerOf checksAt
+  any-part work e h =
+      let h′ = subst (λ (k : Sizes). answerShort (s .elements) (s .entries) (s .«max_iterations») k ≡ true) (sym e) h in
+      let t = short-keeps (partOf s) (checksAt s a (sizesOf work l)) (checksAt s a (sizesOf work l′)) h h′ in
+      record { reply = t .0; state = t .1; lists = t .2 }

@@ -8,4 +8,7 @@ pub mod Alike
 pub mod Whole
 pub mod Keeps
 pub mod Runs
+pub mod Begun
+pub mod Made
+pub mod Ends
 pub mod Demand

@@ -3,9 +3,11 @@ use mathlib.Core.Path.{_≡_, refl, sym, ap, _∙_, subst}
 use mathlib.Core.Bool.{Bool, false}
 use mathlib.Core.List.{List, [], _∷_, _++_}
 use Prim.Native.Nat.{ℕ, suc, _+_, _<_}
+use native.Mathlib.Nat.{add-zero}
 use native.Mathlib.Omega.{arith}
-use lib.ListN.{length}
+use lib.ListN.{length, length-append}
 use borrow.Author.Tests.{leb-false}
+use Rattle.topo.specs.declared.Iteration.{Iteration}
 use Rattle.plain.specs.declared.Verdict.{Verdict}
 use Rattle.plain.specs.declared.Verdict.the-variants.{Kept, Over, Halts, Begins, Solves}
 use Rattle.plain.specs.declared.Course.{Course}
@@ -14,7 +16,8 @@ use Rattle.plain.specs.declared.Entry.the-variants.{Opens}
 use Rattle.plain.specs.Formulas.{sharpness}
 use Rattle.plain.specs.Opening.{Opening, entryOf}
 use Rattle.plain.specs.Plain.{Answer, Part, nothing, solid, round, Out, Row, Seen, inOrder, judged, firstStop, sharpest, countAt, Run, plainStart, updated, stopsOf, onward, checksOf, after, answered, leftOf, plainFrom, plainRun}
-use Rattle.plain.specs.Runs.{solidIn, roundIn, solidAsked, roundsAsked, Upto, stop, more, First, All, none, each, GoodRecord, GoodShown, good, Ended, refusal, bySolver, byStop}
+use Rattle.plain.specs.Runs.{solidIn, roundIn, solidAsked, roundsAsked, Upto, stop, more, First, All, none, each, GoodRecord, Numbered, GoodShown, good, Ended, refusal, bySolver, byStop}
+use Rattle.plain.specs.Demand.{OpenedRun}
 use Rattle.plain.proofs.Formulas.{ready}
 use Rattle.plain.proofs.Counts.{GoesOn, goes-on}
 use Rattle.plain.proofs.Verdicts.{Told-of, told, first-is, first-only}
@@ -107,13 +110,27 @@ good-rows f (r ∷ rows) s =
     all-append (GoodRecord f) (inOrder rows) (r .entry ∷ []) (good-rows f rows (s .4))
     (each (s .0, λ e h. s .3 ∙ ap sharpness (s .1 e (let q : r .entry .number ≡ suc (length rows) = s .2 in omega arith))) none)
 
+numbered-more : (n : ℕ) (l : List Iteration) (e : Iteration) → Numbered n l → e .number ≡ n + length l → Numbered n (l ++ (e ∷ []))
+unfolding Numbered
+numbered-more n [] e h q = (q ∙ add-zero n, tt)
+numbered-more n (x ∷ l) e h q = (h .0, numbered-more (suc n) l e (h .1) (omega arith))
+
+long-rows : (rows : List Row) → length (inOrder rows) ≡ length rows
+long-rows [] = refl
+long-rows (r ∷ rows) = let h = length-append (inOrder rows) (r .entry ∷ []) in omega (arith, h, long-rows rows)
+
+numbered-rows : (f : Bool) (rows : List Row) → Sound f rows → Numbered 1 (inOrder rows)
+unfolding Numbered
+numbered-rows f [] s = tt
+numbered-rows f (r ∷ rows) s = numbered-more 1 (inOrder rows) (r .entry) (numbered-rows f rows (s .4)) (let q : r .entry .number ≡ suc (length rows) = s .2 in omega (arith, long-rows rows))
+
 steep-rows : (f : Bool) (rows : List Row) → Sound f rows → All (λ (r : Row). r .entry .sharpness ≡ sharpness (r .steep)) rows
 steep-rows f [] s = none
 steep-rows f (r ∷ rows) s = each (s .3) (steep-rows f rows (s .4))
 
 good-left : (r : Run) → Keeps r → GoodShown (r .given) (leftOf r)
 good-left r k =
-    good (record { rows = r .rows; are = refl; steeps = steep-rows (r .given .goal .sharpen) (r .rows) (k .sound); most = k .most; good = good-rows (r .given .goal .sharpen) (r .rows) (k .sound); twenty = k .below })
+    good (record { rows = r .rows; are = refl; numbered = numbered-rows (r .given .goal .sharpen) (r .rows) (k .sound); steeps = steep-rows (r .given .goal .sharpen) (r .rows) (k .sound); most = k .most; good = good-rows (r .given .goal .sharpen) (r .rows) (k .sound); twenty = k .below })
 
 good-from : (o : Opening) (r : Run) (rest : List Answer) → r .given ≡ o → Keeps r → All (λ (s : Seen). GoodShown o (s .left)) (plainFrom r rest)
 unfolding plainFrom
@@ -124,18 +141,13 @@ good-from o r (a ∷ rest) e k =
     (good-from o (answered r a .run) rest g (keeps-on r a k))
 
 -- ---- of an opened run
-pub record Opened (o : Opening) (l : List Seen) : Type 0 where
-  pub solid : solidAsked l ≡ 1
-  pub rounds : Upto 1 (o .goal .«max_iterations») (roundsAsked l)
-  pub records : All (λ (s : Seen). GoodShown o (s .left)) l
-
-pub opened-run : (o : Opening) (rest : List Answer) → entryOf o ≡ Opens → Opened o (plainRun o rest)
+pub opened-run : (o : Opening) (rest : List Answer) → entryOf o ≡ Opens → OpenedRun o (plainRun o rest)
 unfolding plainRun solidAsked roundsAsked
 opened-run o rest e =
     let k : Keeps (plainStart o) = keeps-start o (ready o e) in
     rw e (record { solid = omega (arith, solid-from (plainStart o) rest); rounds = rounds-from (plainStart o) rest k; records = each (good-left (plainStart o) k) (good-from o (plainStart o) rest refl k) })
 
--- ---- Ends and changes
+-- ---- ends
 ends-onward : (r : Run) (a : Answer) (v : Course) → judged (r .part) (checksOf r a) ≡ Solves → First (stopsOf (updated r (a .energies)) a) v
     → onward (updated r (a .energies)) v .run .part ≡ nothing → Ended r a (onward (updated r (a .energies)) v .out)
 ends-onward r a (Ends why) e f p = byStop e f
@@ -148,12 +160,12 @@ ends-after r a Halts e h p = bySolver e
 ends-after r a Begins e h p = absurd (let z : _≡_ {A = ℕ} 0 1 = cc in omega arith)
 ends-after r a Solves e h p = ends-onward r a (firstStop (stopsOf (updated r (a .energies)) a)) e (first-is (stopsOf (updated r (a .energies)) a)) p
 
--- a run Ends only by a refusal that is Over, by the solver's stop, or by the first stop that applies
+-- a run ends only by a refusal that is over, by the solver's stop, or by the first stop that applies
 pub ends-by : (r : Run) (a : Answer) → (r .part ≡ nothing → ⊥) → answered r a .run .part ≡ nothing → Ended r a (answered r a .out)
 unfolding answered
 ends-by r a h p = ends-after r a (judged (r .part) (checksOf r a)) refl h p
 
--- and where one of them applies it Ends
+-- and where one of them applies it ends
 pub ends-there : (r : Run) (a : Answer) (o : Out) → Ended r a o → (answered r a .run .part ≡ nothing) × (answered r a .out ≡ o)
 unfolding answered
 ends-there r a o (refusal e) = rw e (refl, refl)

@@ -161,3 +161,23 @@ sane-by c p v (solved s) = s
 
 pub sane-if : (p : Part) (c : Checks) → SaneIf (judged p c) c
 sane-if p c = sane-by c p (judged p c) (judge-is p c)
+
+-- and no other: "given exactly if"
+pub judge-only : (p : Part) (c : Checks) (v : Verdict) → Judge c p v → judged p c ≡ v
+unfolding judged choose
+judge-only p c v outOfTurn = refl
+judge-only p c v (shortSolid s) = rw s
+judge-only p c v (shortRound s) = rw s
+judge-only p c v (haltedSolid s e) = rw (s, e)
+judge-only p c v (haltedFirst s e t) = rw (s, e, t)
+judge-only p c v (haltedLater s e t) = rw (s, e, t)
+judge-only p c v (failedSolid s e) = rw (s, e)
+judge-only p c v (failedRound s e) = rw (s, e)
+judge-only p c v (countSolid s e n) = rw (s, e, n)
+judge-only p c v (countRound s e n) = rw (s, e, n)
+judge-only p c v (badSolid s e n b) = rw (s, e, n, b)
+judge-only p c v (badRound s e n b) = rw (s, e, n, b)
+judge-only p c v (idleSolid s i) = rw (s .0, s .1, s .2, s .3, i)
+judge-only p c v (flagSolid s i f) = rw (s .0, s .1, s .2, s .3, i, f)
+judge-only p c v (begun s i f) = rw (s .0, s .1, s .2, s .3, i, f)
+judge-only p c v (solved s) = rw (s .0, s .1, s .2, s .3)

@@ -31,6 +31,7 @@ use Rattle.plain.specs.Formulas.{Steep, s1, ones, see, recordAt}
 use Rattle.plain.specs.Opening.{Opening, elements, startsOf, nearOf, coefOf, caseOf, startOf, entryOf}
 use Rattle.plain.specs.Plain.{Part, nothing, solid, round, refused, asks, stops, unopened, shown, Seen, Row, judged, firstStop, sharpest, countAt, levelWith, steadyRun, dueSteep, Run, ended, plainStart, askedOf, asking, withWork, updated, stopsOf, onward, checksOf, after, answered, runFrom, plainFrom, plainShut, plainOpen, plainRun}
 use Rattle.plain.specs.Calls.{endedOf, Lists, Told, Result, sizesOf, steepAt, sound, partOf, caseFrom, designIn, densityIn, checksAt, keeps, firstAsked, updateIn, recordIn, levelAt, steadyAt, stopsAt, stageAfter, turnsAfter, onwardState, solvedLists, solvedBy, answerBy, answerOf, Asked, openingOf, openedState, openBy, inTurn, openOf, World, lend, giveBack, Call, worldAfter, outOf, callsFrom, callsShut, callsBy, callsRun, fed, NoRun, worldOpen, worldFrom}
+use Rattle.plain.specs.Demand.{Stands}
 use Rattle.plain.proofs.Parts.{take-part, take-overlay, overlay-part, Renewed, renewed, Added, added}
 use Rattle.plain.proofs.Formulas.{Ready, ready, length-ones, length-start, length-see, length-update}
 use Rattle.plain.proofs.Counts.{steep-at, Climbs, climbs-on, climbs-same, moved, Running, running-on, rowOf, goes-on}
@@ -281,7 +282,7 @@ fresh-counts f s a b c d =
     record { stage = a; turns = b ∙ choose-same (sharpest f s1) 0; few = omega arith; steady = c; calm = omega arith; before = λ w. choose-false (ltb 0 (s .rounds)) _ false (ap (λ (n : ℕ). ltb 0 n) d) }
 
 -- the lists that an opening leaves, given back
-open-sim : (g : Asked) (k : Sizes) (l : Lists) → entryOf (openingOf g (k .work) (lend k l)) ≡ Opens
+pub open-sim : (g : Asked) (k : Sizes) (l : Lists) → entryOf (openingOf g (k .work) (lend k l)) ≡ Opens
     → Sim l (plainStart (openingOf g (k .work) (lend k l))) (openedState (openingOf g (k .work) (lend k l))) (giveBack (openBy (openedState (openingOf g (k .work) (lend k l))) (openingOf g (k .work) (lend k l)) (lend k l) Opens .lists) l)
 unfolding caseFrom caseOf
 open-sim g k l e =
@@ -329,7 +330,7 @@ open-sim g k l e =
       climbs = record { later = λ d b. count-none d };
     }
 
-in-turn : (s : State) (g : Asked) (work : List ℕ) (l : Lists) → NoRun s → openOf s g work l ≡ openBy s (openingOf g work l) l (entryOf (openingOf g work l))
+pub in-turn : (s : State) (g : Asked) (work : List ℕ) (l : Lists) → NoRun s → openOf s g work l ≡ openBy s (openingOf g work l) l (entryOf (openingOf g work l))
 unfolding openOf choose
 in-turn s g work l h = ap (λ (p : Phase). choose (inTurn p) (openBy s (openingOf g work l) l (entryOf (openingOf g work l))) (keeps s 20 l)) h
 
@@ -358,20 +359,13 @@ whole w k g more h = rw (in-turn (w .state) g (k .work) (lend k (w .lists)) h) (
     go Shut e = ap (λ (t : List Seen). record { out = refused 15; left = unopened } ∷ t) (shut-is l (endedOf (w .state)) (giveBack (by Shut .lists) l) more refl)
 
 -- ---- what a run leaves
-sim-from : (l₀ : Lists) (r : Run) (s : State) (l : Lists) (more : List Call) → Sim l₀ r s l
+pub sim-from : (l₀ : Lists) (r : Run) (s : State) (l : Lists) (more : List Call) → Sim l₀ r s l
     → Sim l₀ (runFrom r (map (fed l₀) more)) (worldFrom (record { state = s; lists = l }) more .state) (worldFrom (record { state = s; lists = l }) more .lists)
 unfolding runFrom worldFrom
 sim-from l₀ r s l [] m = m
 sim-from l₀ r s l (c ∷ more) m = sim-from l₀ _ _ _ more (answer-is l₀ r s l c m .sim)
 
--- after each call of an opened run the state passes 20's test and asks for the plain run's part; it has no run open where the plain run has no part
-pub record Stands (w : World) (r : Run) : Type 0 where
-  pub passes : sound (w .state) ≡ true
-  pub asks : partOf (w .state) ≡ r .part
-  pub closed : r .part ≡ nothing → NoRun (w .state)
-  pub solid : w .state .«solid_compliance» ≡ r .solidWork
-
-stands : (l₀ : Lists) (r : Run) (s : State) (l : Lists) → Sim l₀ r s l → Stands (record { state = s; lists = l }) r
+pub stands : (l₀ : Lists) (r : Run) (s : State) (l : Lists) → Sim l₀ r s l → Stands (record { state = s; lists = l }) r
 stands l₀ r s l m =
     let few : s .elements ≤ 65535 = rw (m .elements) (m .ready .few) in
     record {
@@ -379,6 +373,7 @@ stands l₀ r s l m =
       asks = part-is (r .part) r s few (m .rounds) (m .limit) (m .fits);
       closed = λ e. subst (λ (p : Part). Fits p r s) e (m .fits);
       solid = m .solidWork;
+      records = m .history;
     }
 
 pub opened-stands : (w : World) (k : Sizes) (g : Asked) (more : List Call) → NoRun (w .state) → entryOf (openingOf g (k .work) (lend k (w .lists))) ≡ Opens

@@ -5,17 +5,19 @@ use mathlib.Core.List.{List, [], _∷_, _++_}
 use Prim.Native.Nat.{ℕ, suc, _+_, _≤_}
 use lib.ListN.{length}
 use lib.Ieee.{Float}
+use Rattle.lists.specs.Lists.{choose}
 use Rattle.topo.specs.declared.Iteration.{Iteration}
 use Rattle.topo.specs.declared.Stop.{Stop}
 use Rattle.topo.specs.declared.Stop.the-variants.{Settled, LevelledOff, Limit, Budget, Stopped}
+use Rattle.rates.specs.Tried.{reckonings}
 use Rattle.plain.specs.declared.Said.the-variants.{Gave, Failed, Halted}
 use Rattle.plain.specs.declared.Verdict.{Verdict}
 use Rattle.plain.specs.declared.Verdict.the-variants.{Kept, Over, Halts, Begins, Solves}
 use Rattle.plain.specs.declared.Course.{Course}
 use Rattle.plain.specs.declared.Course.the-variants.{Onward, Ends}
-use Rattle.plain.specs.Formulas.{Steep, s16, sharpness}
-use Rattle.plain.specs.Opening.{Opening}
-use Rattle.plain.specs.Plain.{Part, nothing, solid, round, Out, refused, asks, stops, Row, Shown, shown, Seen, Stops, Checks, inOrder, sharpest, countAt, Run, Answer, judged, checksOf, stopsOf, updated, askedOf}
+use Rattle.plain.specs.Formulas.{Steep, s16, sharpness, givenAt}
+use Rattle.plain.specs.Opening.{Opening, caseOf}
+use Rattle.plain.specs.Plain.{Part, nothing, solid, round, Out, refused, asks, stops, Row, Shown, shown, Seen, Stops, Checks, inOrder, same, sharpest, countAt, Run, Answer, judged, checksOf, stopsOf, updated, askedOf, answered}
 
 -- ---- questions
 abbrev pub solidIn : Out → ℕ
@@ -64,10 +66,16 @@ pub data All {A : Type 0} (P : A → Type 0) : List A → Type 0 where
 abbrev pub GoodRecord : Bool → Iteration → Type 0
 GoodRecord sharpen e = (e .passes ≤ 200) × (sharpen ≡ true → 81 ≤ e .number → e .sharpness ≡ sharpness s16)
 
--- the records that an opened run shows: no more than the rounds allowed, each good, and, if sharpened, "at most 20 rounds at each steepness below 16"
+-- record k has the number k: the first of the list has n, and each one more than the one before
+unfoldable pub Numbered : ℕ → List Iteration → Type 0
+Numbered n [] = Unit {0}
+Numbered n (e ∷ l) = (e .number ≡ n) × Numbered (suc n) l
+
+-- the records that an opened run shows: numbered from 1, no more than the rounds allowed, each good, and, if sharpened, "at most 20 rounds at each steepness below 16"
 pub record GoodRecords (o : Opening) (l : List Iteration) : Type 0 where
   pub rows : List Row
   pub are : l ≡ inOrder rows
+  pub numbered : Numbered 1 l
   pub steeps : All (λ (r : Row). r .entry .sharpness ≡ sharpness (r .steep)) rows
   pub most : length rows ≤ o .goal .«max_iterations»
   pub good : All (GoodRecord (o .goal .sharpen)) l
@@ -106,3 +114,39 @@ pub data Judge (c : Checks) : Part → Verdict → Type 0 where
   flagSolid : Sane c → c .idle ≡ false → c .flag ≡ true → Judge c solid (Over 15)
   begun : Sane c → c .idle ≡ false → c .flag ≡ false → Judge c solid Begins
   solved : {n : ℕ} → Sane c → Judge c (round n) Solves
+
+-- ---- rounds begun: "A round begins when its question goes out."
+abbrev pub begunBy : Out → Steep → List Steep
+begunBy (refused n) b = []
+begunBy (asks nothing q) b = []
+begunBy (asks solid q) b = []
+begunBy (asks (round n) q) b = b ∷ []
+begunBy (stops why q) b = []
+
+-- the steepness of each round that answers begin, in order
+unfoldable pub roundsBegun : Run → List Answer → List Steep
+roundsBegun r [] = []
+roundsBegun r (a ∷ late) = begunBy (answered r a .out) (answered r a .run .steep) ++ roundsBegun (answered r a .run) late
+
+-- how often a steepness is among them
+unfoldable pub times : Steep → List Steep → ℕ
+times d [] = 0
+times d (b ∷ l) = choose (same d b) (suc (times d l)) (times d l)
+
+-- ---- reckonings
+-- "each kept volume that the plain run's update evaluates is one reckoning made": those of an answer, and of a list of answers
+abbrev pub madeBy : Run → Answer → Verdict → List Float
+madeBy r a (Kept n) = []
+madeBy r a (Over n) = []
+madeBy r a Halts = []
+madeBy r a Begins = []
+madeBy r a Solves = reckonings (givenAt (caseOf (r .given)) (r .steep) (r .design) (askedOf r) (a .energies))
+
+unfoldable pub made : Run → List Answer → ℕ
+made r [] = 0
+made r (a ∷ late) = length (madeBy r a (judged (r .part) (checksOf r a))) + made (answered r a .run) late
+
+-- those in records
+unfoldable pub recordedIn : List Iteration → ℕ
+recordedIn [] = 0
+recordedIn (e ∷ l) = e .passes + recordedIn l

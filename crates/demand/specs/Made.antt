@@ -52,6 +52,7 @@ pub record MetOpen (w : World) (b : MadeOpen) : Type 0 where
   pub contract : Opened (w .state) (b .asked) (coreOf (lend (b .lent) (w .lists))) (b .work) (lend (b .lent) (w .lists) .history) (b .gives) (b .core) (b .worked) (b .history)
 
 pub record Met (w : World) (m : Made) : Type 0 where
+  -- the working lists are as long as lent
   pub long : lengthsOf (m .work) ≡ m .lent .work
   pub contract : Answered (w .state) (m .told) (coreOf (lend (m .lent) (w .lists))) (m .work) (lend (m .lent) (w .lists) .history) (m .gives) (m .core) (m .worked) (m .history)
 

@@ -4,20 +4,20 @@ use mathlib.Core.Path.{_≡_, refl, sym, ap, _∙_, subst}
 use mathlib.Core.Bool.{true}
 use mathlib.Core.List.{List, [], _∷_, map}
 use Prim.Native.Nat.{ℕ}
-use Rattle.plain.specs.declared.Entry.the-variants.{Opens}
+use lib.ListN.{take}
 use Rattle.plain.specs.declared.Phase.{Phase}
 use Rattle.plain.specs.declared.State.{State}
 use Rattle.plain.specs.declared.Reply.{Reply}
 use Rattle.plain.specs.declared.Reply.the-variants.{Refused, Solid, Round, Stop}
-use Rattle.plain.specs.Opening.{Opening, entryOf}
-use Rattle.plain.specs.Plain.{Out, Answer, Seen, unopened, plainRun, plainStart, runFrom}
-use Rattle.plain.specs.Calls.{Result, World, openOf, openingOf, answerOf, lend, worldAfter, outOf, leftAt, resultOf, callsFrom, callsShut, callsBy, callsRun, fed, NoRun, fresh, sound, soundIn, inTurn, worldOpen, worldFrom}
-use Rattle.plain.proofs.Whole.{Stands}
-use Rattle.plain.proofs.Runs.{Opened as OpenedRun}
+use Rattle.plain.specs.Plain.{Out, Answer, Run, Seen, unopened}
+use Rattle.plain.specs.Runs.{Ended, recordedIn}
+use Rattle.plain.specs.Calls.{Result, World, openOf, answerOf, lend, worldAfter, outOf, leftAt, resultOf, callsFrom, callsShut, callsBy, callsRun, fed, NoRun, fresh, sound, soundIn, inTurn, worldOpen, worldFrom}
+use Rattle.plain.specs.Demand.{OpenedRun, Stands, EndsAt}
 use Rattle.plain.proofs.Demand.{demand}
 use Rattle.bounds.specs.Bounds.{WithinRun}
 use Rattle.bounds.proofs.Runs.{within-run}
-use Rattle.run.specs.Made.{MadeOpen, Made, openResult, answerResult, callOf, MetOpen, Met, AllMet, seenFrom, seenShut, seenBy, opened, seenRun, worldMade}
+use Rattle.demand.specs.Made.{MadeOpen, Made, openResult, answerResult, callOf, MetOpen, Met, AllMet, seenFrom, seenShut, seenBy, opened, seenRun, worldMade}
+use Rattle.demand.specs.Demand.{EndsMade, opening, answers, held, plainEnd, Demand3}
 
 -- ---- a call that meets its contract gives the function's result
 open-is : (w : World) (b : MadeOpen) → MetOpen w b → openResult b ≡ openOf (w .state) (b .asked) (b .lent .work) (lend (b .lent) (w .lists))
@@ -55,20 +55,13 @@ world-is w [] h = refl
 world-is w (m ∷ more) h = world-is (worldAfter (w .lists) (answerResult m)) more (h .1) ∙ ap (λ (r : Result). worldFrom (worldAfter (w .lists) r) (map callOf more)) (answer-is w m (h .0))
 
 -- ---- the demand
--- what the plain run is fed
-abbrev pub openingFrom : World → MadeOpen → Opening
-openingFrom w b = openingOf (b .asked) (b .lent .work) (lend (b .lent) (w .lists))
-
-abbrev pub answersFrom : World → List Made → List Answer
-answersFrom w more = map (fed (w .lists)) (map callOf more)
-
--- for every opening on a state with no run open and every list of answers: `same` is the whole claim, the others what follows from it
-pub record Demand3 (w : World) (b : MadeOpen) (more : List Made) : Type 0 where
-  pub same : seenRun w b more ≡ plainRun (openingFrom w b) (answersFrom w more)
-  pub opened-run : entryOf (openingFrom w b) ≡ Opens → OpenedRun (openingFrom w b) (seenRun w b more)
-  pub within : entryOf (openingFrom w b) ≡ Opens → WithinRun (openingFrom w b) (seenRun w b more)
-  pub stands : entryOf (openingFrom w b) ≡ Opens → Stands (worldMade (opened w b) more) (runFrom (plainStart (openingFrom w b)) (answersFrom w more))
-  pub refused : (entryOf (openingFrom w b) ≡ Opens → ⊥) → NoRun (worldMade (opened w b) more .state)
+ends-made : (v : World) (m : Made) (r : Run) (a : Answer) → Met v m → EndsAt v (callOf m) r a → EndsMade v m r a
+ends-made v m r a h x =
+    let e : answerResult m ≡ resultOf v (callOf m) = answer-is v m h in
+    record {
+      only = λ p q. subst (λ (t : Result). Ended r a (outOf t)) (sym e) (x .only p (subst (λ (t : Result). NoRun (t .state)) e q));
+      there = λ o z. let t = x .there o z in (subst (λ (u : Result). NoRun (u .state)) (sym e) (t .0), ap outOf e ∙ t .1);
+    }
 
 pub demand-3 : (w : World) (b : MadeOpen) (more : List Made) → NoRun (w .state) → MetOpen w b → AllMet (opened w b) more → Demand3 w b more
 unfolding seenRun callsRun
@@ -81,9 +74,12 @@ demand-3 w b more h m all =
     world-is (opened w b) more all ∙ ap (λ (r : Result). worldFrom (worldAfter (w .lists) r) (map callOf more)) e in
     record {
       same = seen ∙ d .same;
-      opened-run = λ z. subst (OpenedRun (openingFrom w b)) (sym seen) (d .opened z);
-      within = λ z. subst (WithinRun (openingFrom w b)) (sym (seen ∙ d .same)) (within-run (openingFrom w b) (answersFrom w more) z);
-      stands = λ z. subst (λ (v : World). Stands v (runFrom (plainStart (openingFrom w b)) (answersFrom w more))) (sym left) (d .stands z);
+      opened-run = λ z. subst (OpenedRun (opening w b more)) (sym seen) (d .opened z);
+      twenty = d .twenty;
+      made = λ z. d .made z ∙ ap (λ (v : World). recordedIn (take (v .state .rounds) (v .lists .history))) (sym left);
+      within = λ z. subst (WithinRun (opening w b more)) (sym (seen ∙ d .same)) (within-run (opening w b more) (answers w b more) z);
+      ends = λ z q mq. ends-made _ q _ _ mq (subst (λ (v : World). EndsAt v (callOf q) (plainEnd w b more) (fed (w .lists) (callOf q))) (sym left) (d .ends z (callOf q)));
+      stands = λ z. subst (λ (v : World). Stands v (plainEnd w b more)) (sym left) (d .stands z);
       refused = λ z. subst (λ (v : World). NoRun (v .state)) (sym left) (d .refused z);
     }
 
