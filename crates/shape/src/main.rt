@@ -1,6 +1,9 @@
 // Reads a job strip from standard input, runs its job, and writes what came of it to standard output. Nothing is written before the run has ended.
 ghost use Prim.Native.Nat.{_≤_};
 ghost use lib.ListN.{length};
+ghost use Rattle.report.specs.Report.{textOf};
+ghost use Rattle.report.specs.Steps.{Wrote};
+ghost use Rattle.shape.specs.Shape.{outcomeFrom};
 use libc::STDIN_FILENO;
 use libc::STDOUT_FILENO;
 use strip::Job;
@@ -97,6 +100,7 @@ fn run(
 ) -> usize
     requires { ⌜ length (now volumes) ≤ 256 ⌝ }
     ensures { λ r. ⌜ r ≤ length (now (out .entry)) ⌝ }
+    ensures { λ r. ⌜ Wrote (textOf (outcomeFrom goal (now (volumes .entry)) (now (centroids .entry)) (now (weights .entry)) (now (passive .entry)) (now (mirrors .entry)))) 0 (now (out .entry)) (now (out .exit)) r ⌝ }
 {
     let none = Iteration {
         number: 0,

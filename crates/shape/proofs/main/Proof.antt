@@ -142,7 +142,7 @@ array-share-prefix-out-3 : tie.Need-array-share-prefix-out-3
 array-share-prefix-out-3 c = search needs
 
 slice-aggregate-write-all-3 : tie.Need-slice-aggregate-write-all-3
-slice-aggregate-write-all-3 c = front _ 14000 _ (c .before .before .run .kept .1 .1 .1 .1 .1 .1 .0) (c .before .before .run .ensures)
+slice-aggregate-write-all-3 c = front _ 14000 _ (c .before .before .run .kept .1 .1 .1 .1 .1 .1 .0) (c .before .before .run .ensures .0)
 
 write-all-requires-3 : tie.Need-write-all-requires-3
 write-all-requires-3 c κs = search needs

@@ -1,11 +1,20 @@
 -- `run` lends its lists whole. Assumes nothing.
 use borrow.Author.Needs.{needs}
-use mathlib.Core.Path.{_≡_, sym}
+use mathlib.Core.Path.{_≡_, sym, ap}
 use mathlib.Core.List.{List}
+use mathlib.Core.Bool.{Bool, false}
+use lib.Ieee.{Float}
+use Rattle.topo.specs.declared.Goal.{Goal}
+use Rattle.report.proofs.Laws.{retext}
 use Prim.Native.Nat.{ℕ, _+_, _≤_, min}
 use native.Mathlib.Omega.{arith}
 use lib.ListN.{length}
+use Rattle.plain.specs.Lent.{openWork, answerWork}
 use Rattle.report.specs.Steps.{Wrote}
+use Rattle.report.specs.Report.{textOf}
+use Rattle.printed.specs.Printed.{outcomeOf}
+use Rattle.job.specs.Job.{jobOf}
+use Rattle.shape.specs.Shape.{lists, outcomeFrom}
 use lib.Seq.{length-take-le}
 use Rattle.shape.proofs.run.Statement.{statement}
 use Rattle.shape.proofs.run.Tie as tie
@@ -85,8 +94,16 @@ text-requires c κs = search needs
 same-length : tie.Need-same-length
 same-length c = search needs
 
+-- the energies have a place for each element
+sized : (goal : Goal) (v : List Float) (c : List (List Float)) (ws : List Float) (p : List Bool) (m : List (List Float)) {n r : ℕ} {a b : List ℕ} → n ≡ length v
+    → Wrote (textOf (outcomeOf (jobOf ws n (openWork 256) (answerWork 256) (record { centroids = c; mirrors = m; goal = goal; flag = false }) (lists v p)))) 0 a b r
+    → Wrote (textOf (outcomeFrom goal v c ws p m)) 0 a b r
+unfolding outcomeFrom
+sized goal v c ws p m e w = retext (ap (λ (k : ℕ). textOf (outcomeOf (jobOf ws k (openWork 256) (answerWork 256) (record { centroids = c; mirrors = m; goal = goal; flag = false }) (lists v p)))) e) w
+
 returns : tie.Need-returns
-returns c = inside (c .before .before .before .before .before .before .before .before .before .before .before .before .before .before .before .before .before .before .before .before .before .before .text .ensures)
+returns c =
+    (inside (c .before .before .before .before .before .before .before .before .before .before .before .before .before .before .before .before .before .before .before .before .before .before .text .ensures), sized _ _ _ _ _ _ (length-take-le _ _ (c .before .before .before .before .before .before .before .before .before .before .before .before .before .before .before .before .before .before .before .before .before .before .before .before .before .before .before .before .before .before .before .before .before .before .before .before .before .before .before .before .before .before .before .before .before .before .before .before .pre)) (c .before .before .before .before .before .before .before .before .before .before .before .before .before .before .before .before .before .before .before .before .before .before .text .ensures))
 
 pub run-spec : {M : Type 1} → statement M
 run-spec =

@@ -1,0 +1,2 @@
+-- `Shape` has how the job of the lists that were read ends.
+pub mod Shape
