@@ -1,5 +1,5 @@
-// The parts of a round. Lists that have one place an element are refused with 1 where they differ in count; a list that is written, or
-// that is for the call's own use, with 14 where it has fewer places, and where it has more the rest stays as lent.
+// The parts of a round. Where a call writes a list, those that it reads are refused with 1 where they differ in count, and one that it writes, or that is for its
+// own use, with 14 where it has fewer places; where that has more the rest stays as lent. A call that writes none refuses nothing (docs/API.md has each).
 ghost use mathlib.Core.Path.{_≡_};
 ghost use mathlib.Core.Bool.{not, _||_};
 ghost use lib.ListN.{length, getD};

@@ -1,5 +1,6 @@
 -- 01's proved cases of `off_centre`: "points at x = 0 and 1, plane x = 0: reaches 1 and 0, at 0.5 none"; and "No points: `off_centre` gives none". Assumes nothing.
 use mathlib.Core.Path.{_≡_, refl}
+use mathlib.Core.Bool.{false}
 use mathlib.Core.List.{List, [], _∷_}
 use lib.Ieee.{Float, binary64, ofBits, neg, add, sub, mul, div, sum, round, units, le, isNan}
 use Rattle.lists.specs.Lists.{foldTo, anyTo, choose, zero64}
@@ -9,7 +10,7 @@ use Rattle.geom.specs.Vectors.{vec, less, dot, len, len2}
 use Rattle.geom.specs.declared.Mirror.{Mirror}
 use Rattle.mesh.specs.Mesh.{nodeOutside, nodesOutside}
 use Rattle.filter.specs.Group.{planeBad}
-use Rattle.off_centre.specs.OffCentre.{reachOf, lowest, highest, balanceOf, refusalOf, offCentreOf}
+use Rattle.off_centre.specs.OffCentre.{flat, reachOf, lowest, highest, balanceOf, refusalOf, offCentreOf}
 use Rattle.off_centre.specs.declared.Balance.the-variants.{Even, Reaches}
 
 abbrev half64 : Float
@@ -31,6 +32,7 @@ pub even-at-half : offCentreOf two (planeAt half64) ≡ Even
 unfolding offCentreOf refusalOf balanceOf lowest highest reachOf planeBad nodesOutside nodeOutside anyTo foldTo choose less dot len len2 absOf minOf maxOf ofBits add sub mul div neg sum round units sqrtOf rootOf isqrt rootIn le isNan
 even-at-half = refl
 
-pub none-of-none : offCentreOf [] (planeAt zero64) ≡ Even
-unfolding offCentreOf refusalOf balanceOf lowest highest reachOf planeBad nodesOutside anyTo foldTo choose len len2 dot absOf minOf maxOf ofBits add sub mul div neg sum round units sqrtOf rootOf isqrt rootIn le isNan
-none-of-none = refl
+-- for every plane that is not refused
+pub none-of-none : (m : Mirror) → planeBad (flat m) ≡ false → offCentreOf [] m ≡ Even
+unfolding offCentreOf refusalOf balanceOf lowest highest nodesOutside anyTo foldTo choose le
+none-of-none m h = rw h refl
