@@ -42,7 +42,7 @@ module _ (p a b c : Vec3) where
   abbrev pub d6 : Float
   d6 = dot ac cp
 
-  -- twice the triangle's area times the barycentric coordinates of c, b and a
+  -- the barycentric coordinates of c, b and a at the point under p in the plane, times the square of twice the triangle's area
   abbrev pub vc : Float
   vc = sub binary64 (mul binary64 d1 d4) (mul binary64 d3 d2)
 
