@@ -28,7 +28,7 @@ unfoldable pub bytesOf : List ℕ → List ℕ
 bytesOf [] = []
 bytesOf (w ∷ words) = w % 0x100 ∷ w / 0x100 % 0x100 ∷ w / 0x1_0000 % 0x100 ∷ w / 0x100_0000 ∷ bytesOf words
 
--- the first digit of a word is its kind. "start; share, radius; sharpen flag; rounds; planes; per element volume, x, y, z, weight, held flag; end"
+-- the first digit of a word is its kind. "start; share, radius; sharpen flag; rounds; planes [..]; per element volume, x, y, z, weight, held flag; end"
 unfoldable pub strip : List ℕ
 strip =
     bytesOf
@@ -145,7 +145,7 @@ shownRun =
     ∷ record { out = stops Limit firstAsked; left = shown (firstRound ∷ []) updatedDesign }
     ∷ []
 
--- "Printed: solid work; round with work, share, change, steepness, grey, reckonings; stop; element (from 1) and density bits."
+-- "Printed: solid work; round with work, share, change, steepness, grey [..], reckonings [..]; stop; element (from 1) and density bits."
 abbrev pub lines : String
 lines = "solid 3FF0000000000000\nround 1 3FF0000000000000 3FE8000000000000 3FC999999999999A 3FF0000000000000 3FF0000000000000 200\nstop Limit\n1 3FF0000000000000\n2 3FE0000000000000\n"
 

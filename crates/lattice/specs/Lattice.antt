@@ -122,7 +122,7 @@ edgesTo g n = foldTo (λ e l. meetAll l (sidesOf g e)) [] n
 abbrev pub edgesIn : Grid → List Edge
 edgesIn g = edgesTo g (tetsIn g)
 
--- the number of the node in the middle of an edge: "mid-side nodes numbered at first use", after the corners
+-- the number of the node in the middle of an edge: after the corners, in the order of first use
 unfoldable pub middleOf : Grid → Edge → ℕ
 middleOf g x = cornersIn g + placeIn x (edgesIn g)
 

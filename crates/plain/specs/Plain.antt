@@ -39,7 +39,7 @@ pub data Part : Type 0 where
   solid : Part
   round : ℕ → Part
 
--- "each call's refusal number, stop or part asked for, with a part its densities, with a stop those of the last record's round"
+-- "each call's refusal number, stop or part asked for, with a part its densities [..], with a stop those of the last record's round"
 pub data Out : Type 0 where
   refused : ℕ → Out
   asks : Part → List Float → Out
@@ -127,7 +127,7 @@ judged nothing c = Kept 20
 judged solid c = choose (c .short) (Kept 14) (solidSaid (c .said) c)
 judged (round n) c = choose (c .short) (Kept 14) (roundSaid (c .said) c)
 
--- ---- "stops are tried in this order: Settled, LevelledOff, Limit, Budget. Earlier, only Limit and Budget. Stopped comes last"
+-- ---- "stops are tried in this order: Settled [..], LevelledOff [..], Limit, Budget. Earlier, only Limit and Budget." "Stopped comes last"
 pub record Stops : Type 0 where
   pub sharp : Bool
   pub small : Bool
@@ -145,7 +145,7 @@ firstStop t =
     (choose (t .flag) (Ends Stopped) Onward))))
 
 -- ---- the run
--- "It keeps the opening's arguments, the part asked for, design, steepness, solid work, the densities asked with its last record's round, and its own
+-- "It keeps the opening's arguments, the part asked for [..], design, steepness, solid work, the densities asked with its last record's round, and its own
 -- records, empty at first."
 pub record Run : Type 0 where
   pub given : Opening

@@ -118,7 +118,7 @@ accepted bytes =
     eqb (length bytes) (4 * wordsOf (elementsOf bytes) (mirrorsOf bytes))
     && not (anyTo (misplaced bytes) (wordsOf (elementsOf bytes) (mirrorsOf bytes)))
 
--- "22, kept: job strip malformed", or the job
+-- 22, kept: "job strip malformed"; or the job
 unfoldable pub checkStrip : List ℕ → Answer
 checkStrip bytes = choose (accepted bytes) (Read (jobOf (wordAt bytes))) (Refused 22)
 
@@ -134,7 +134,7 @@ abbrev pub lent : List ℕ → List (List ℕ) → List ℕ → List Bool → Li
 lent volumes centroids weights passive mirrors =
     record { volumes = volumes; centroids = centroids; weights = weights; passive = passive; mirrors = mirrors }
 
--- "14: a lent list shorter than needed"
+-- 14: "a lent list shorter than needed"
 unfoldable pub short : Lists → ℕ → ℕ → Bool
 short l n k =
     ltb (length (l .volumes)) n || ltb (length (l .centroids)) n || ltb (length (l .weights)) n || ltb (length (l .passive)) n

@@ -9,7 +9,7 @@ use Rattle.strip.specs.declared.Job.{Job}
 use Rattle.strip.specs.declared.Answer.{Answer}
 use Rattle.strip.specs.declared.Answer.the-variants.{Read, Refused}
 
--- "It holds 256 elements, 64 records; more elements or rounds is 14, after 22 and before the opening": 0 where the job is to be opened
+-- "It holds 256 elements, 64 records [..]; more elements or rounds is 14, after 22 and before the opening": 0 where the job is to be opened
 abbrev pub refusalOf : Answer → ℕ
 refusalOf (Refused n) = n
 refusalOf (Read job) = choose (ltb 256 (job .elements) || ltb 64 (job .«max_iterations»)) 14 0
