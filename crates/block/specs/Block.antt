@@ -92,7 +92,7 @@ abbrev pub tooMany : Grid → Bool
 tooMany g = ltb 65535 (tetsIn g) || (ltb 1048576 (nodesIn g) || ltb 65535 (length (trianglesIn g)))
 
 -- the refusal, 0 where there is none: 3, 9, 14 in this order, with lists of n, t, s, r and w places for nodes, tetrahedra, surfaces, triangles and work.
--- 9: the far corner is the size, and is outside the domain of nodes
+-- 9: the size is outside the domain of nodes
 unfoldable pub refusalOf : Grid → ℕ → ℕ → ℕ → ℕ → ℕ → ℕ
 refusalOf g n t s r w =
     choose (tooMany g) 3
