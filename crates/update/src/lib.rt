@@ -22,7 +22,7 @@ pub enum Ending {
 
 pub struct Updated {
     pub ending: Ending,
-    // how many volumes were reckoned
+    // how many volumes the update of the definition reckons
     pub passes: usize,
 }
 
