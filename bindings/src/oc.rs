@@ -1,7 +1,7 @@
 //! The parts of a round, and the update of the design.
 //!
-//! Lists have one place an element. A call whose lists differ in count is refused with 1, and one that is lent a list to write that is
-//! shorter with 14; then all lists are as before. Of a longer one the rest stays as it is.
+//! Lists have one place an element. A call that gives a `Result` refuses lists that differ in count with 1, and a list to write that is
+//! shorter with 14; then all lists are as before. Of a longer one the rest stays as it is. The others go as far as the shorter list.
 use crate::table::Table;
 use crate::{Refused, ffi, refusal};
 pub use ffi::Start;
