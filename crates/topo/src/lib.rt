@@ -56,7 +56,7 @@ pub struct Iteration {
     pub sharpness: f64,
     // how far from solid or empty the design is: 0 where every free element is 0 or 1
     pub grey: f64,
-    // how many volumes the update evaluated: 01's reckonings
+    // how many volumes the update evaluates as it is defined: 01's reckonings
     pub passes: usize,
 }
 
