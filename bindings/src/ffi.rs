@@ -578,10 +578,10 @@ pub fn sokdrib_dist2_each(points: &[[f64; 3]], triangles: &[[f64; 9]], out: &mut
     unsafe { library::sokdrib_dist2_each(points.as_ptr(), points.len(), triangles.as_ptr(), triangles.len(), out.as_mut_ptr(), out.len()) }
 }
 
-/// The filter's table, over the radius and the same on both sides of each plane (its point, then its normal), and 0 or the refusal. 1, 2, 3, 10 and 14
-/// before the first row leave all lists as before; 13 and 14 at a row leave the table's lists and the working lists zero throughout. A table has its rows'
-/// starts, one more than there are elements, and each row's neighbours and weights up to its end. The working lists are for the call's own use: one
-/// place an element, first one more, and bits 1040.
+/// The filter's table, over the radius and the same on both sides of each plane (its point, then its normal), and 0 or the refusal. 1 to 4 and 8 to 12
+/// in order, and 14 before the first row, leave all lists as before; 13 and 14 at a row leave the table's lists and the working lists zero throughout. A
+/// table has its rows' starts, one more than there are elements, and each row's neighbours and weights up to its end. The working lists are for the
+/// call's own use: one place an element, first one more, and bits 1040.
 #[allow(clippy::too_many_arguments)]
 pub fn sokdrib_filter_build(
     centroids: &[[f64; 3]],

@@ -42,8 +42,8 @@ impl Work {
 
 /// The table for elements with these middles and volumes, over `radius`, the same on both sides of each of `planes`: a point, then the normal.
 ///
-/// Refused with 1, 2, 3 or 10, and with 14 where a list is shorter than is known before the first row: then all lists are as before. Refused at
-/// a row with 13 (the table would take more than 512 MB) or 14 (the row ends past `near` or `coef`): then all lists are zero throughout.
+/// Refused with 1, 2, 3, with 4, 8, 9, 10, 11 or 12 where a volume, the radius, a middle or the planes are outside the domain, and then with 14 where a
+/// list is shorter than is known before the first row, in this order: all lists are as before. Refused at a row with 13 (the table would take more than 512 MB) or 14 (the row ends past `near` or `coef`): then all lists are zero throughout.
 pub fn build(
     centroids: &[[f64; 3]],
     volumes: &[f64],

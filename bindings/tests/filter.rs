@@ -16,10 +16,22 @@ fn two_elements() {
     assert_eq!(made(1.0, &[], 5), (Ok(()), [0, 1, 2, 9], [0, 1, 9, 9, 9], [1.0, 1.0, 9.0, 9.0, 9.0]));
     // In the plane midway each element is the other's image, and the two have the same weight.
     assert_eq!(made(1.0, &[[0.5, 0.0, 0.0, 2.0, 0.0, 0.0]], 5).1, [0, 2, 4, 9]);
-    assert_eq!(made(1.0, &[[0.0; 6]; 4], 5).0, Err(Refused(10)));
+    // What is outside the domain is refused by its number, the first in document 01's order, and the lists are as they were.
+    let lent = made(1.0, &[], 5);
+    let refused = |number| (Err(Refused(number)), lent.1, lent.2, lent.3);
+    assert_eq!(made(0.0009, &[[0.0; 6]; 4], 5), refused(8));
+    assert_eq!(made(f64::NAN, &[], 5), refused(8));
+    assert_eq!(made(1.0, &[[0.0; 6]; 4], 5), refused(10));
+    assert_eq!(made(1.0, &[[0.0; 6]], 5), refused(11));
+    assert_eq!(made(1.0, &[[0.0, 0.0, 0.0, 1.0, 0.0, 0.0], [0.0, 0.0, 0.0, 1.0, 1.0, 0.0]], 5), refused(12));
     // A row that ends past the lists: all are zero.
     assert_eq!(made(2.0, &[], 3), (Err(Refused(14)), [0; 4], [0, 0, 0, 1, 9], [0.0; 5]));
     work.bits.pop();
-    let into = Into { starts: &mut starts, near: &mut near, coef: &mut coef };
-    assert_eq!(build(&middles, &[1.0, 1.0], 1.0, &[], into, &mut work), Err(Refused(14)));
+    let mut told = |middles: &[[f64; 3]], volumes: &[f64]| {
+        let into = Into { starts: &mut starts, near: &mut near, coef: &mut coef };
+        build(middles, volumes, 1.0, &[], into, &mut work)
+    };
+    assert_eq!(told(&middles, &[1.0, 0.0]), Err(Refused(4)));
+    assert_eq!(told(&[[0.0; 3], [1_000_001.0, 0.0, 0.0]], &[1.0, 1.0]), Err(Refused(9)));
+    assert_eq!(told(&middles, &[1.0, 1.0]), Err(Refused(14)));
 }

@@ -3,7 +3,7 @@ use crate::compare::Run;
 use crate::fields;
 use crate::inputs::Gen;
 use crate::lists::{Lists, elements, number, table};
-use crate::plain::mirrors;
+use crate::plain::{mirrors, shape_refused, volume_outside};
 use sokdrib::filter::{self, BITS, Into, Work};
 use tenon::topo::Filter;
 
@@ -127,9 +127,33 @@ impl Build {
             3 => drop(b.volumes.pop()),
             4 => b.planes = vec![[0.0, 0.0, 0.0, 1.0, 0.0, 0.0]; 4],
             5 => drop(b.centroids.pop()),
+            // At a limit of the domain or past it, mostly in one respect alone: of two the first in 01's order is told.
+            6..12 => (0..1 + g.below(2)).for_each(|_| b.strain(g)),
             _ => {}
         }
         b
+    }
+
+    /// One number at a limit of the domain, at the next float on either side, or no number at all.
+    fn strain(&mut self, g: &mut Gen) {
+        let (least, most) = (g.pick(&[0.0, -1.0, f64::NAN]), g.pick(&[f64::INFINITY, f64::NEG_INFINITY, f64::NAN]));
+        let coordinate = |g: &mut Gen| {
+            let edge = g.pick(&[1e6, -1e6]);
+            g.pick(&[edge, edge.next_up(), edge.next_down(), most])
+        };
+        let (n, planes) = (self.volumes.len(), self.planes.len());
+        match g.below(5) {
+            0 => self.volumes[g.below(n)] = g.pick(&[least, most, 1e20, 1e20f64.next_up(), 5e-324]),
+            1 => self.radius = g.pick(&[least, most, 0.001, 0.001f64.next_down(), 1e6, 1e6f64.next_up()]),
+            2 => self.centroids[g.below(n)][g.below(3)] = coordinate(g),
+            3 if planes > 0 => self.planes[g.below(planes)][g.below(6)] = coordinate(g),
+            // A normal just long enough or not, and two that are just square to each other or not.
+            3 => self.planes = vec![[0.0, 0.0, 0.0, g.pick(&[1e-12, 1e-12f64.next_up(), 0.0]), 0.0, 0.0]],
+            _ => {
+                let lean = g.pick(&[1e-9, 1e-9f64.next_up(), 1e-9f64.next_down(), 1e-7, 1.0]);
+                self.planes = vec![[0.0, 0.0, 0.0, 1.0, 0.0, 0.0], [0.0, 0.0, 0.0, lean, 1.0, 0.0]];
+            }
+        }
     }
 
     /// Lists just long enough.
@@ -208,14 +232,17 @@ fn worked(k: u32, n: usize, w: &Work) -> Worked {
 fn build_theirs(b: Build) -> Built {
     let n = b.centroids.len();
     let (mut t, mut w) = (b.table(), b.work());
+    let shape = shape_refused(b.radius, &b.centroids, &b.planes);
     let early = if b.volumes.len() != n {
         1
     } else if n == 0 {
         2
     } else if n > 65_535 {
         3
-    } else if b.planes.len() > 3 {
-        10
+    } else if b.volumes.iter().any(|v| volume_outside(*v)) {
+        4
+    } else if shape != 0 {
+        shape
     } else if b.lent.iter().zip(needs(n)).any(|(has, needs)| *has < needs) {
         14
     } else {
@@ -324,7 +351,12 @@ mod tests {
         let wanted = [
             "refused 0",
             "refused 1",
+            "refused 4",
+            "refused 8",
+            "refused 9",
             "refused 10",
+            "refused 11",
+            "refused 12",
             "14 zeroed",
             "14 kept",
             "0 planes",

@@ -160,6 +160,32 @@ pub fn mirrors(planes: &[[f64; 6]]) -> Vec<Mirror> {
     planes.iter().map(|p| Mirror { point: vector(&p[..3]), normal: vector(&p[3..]) }).collect()
 }
 
+/// 4: not above 0 and at most 10^20.
+pub fn volume_outside(v: f64) -> bool {
+    !(v > 0.0 && v <= 1e20)
+}
+
+/// 8 to 12 in order; 0 where there is none.
+pub fn shape_refused(radius: f64, centroids: &[[f64; 3]], planes: &[[f64; 6]]) -> u32 {
+    if !(radius >= 0.001 && radius <= 1e6) {
+        return 8;
+    }
+    if centroids.iter().flatten().any(|v| outside(*v)) {
+        return 9;
+    }
+    if planes.len() > 3 {
+        return 10;
+    }
+    let normals: Vec<Vec3> = mirrors(planes).iter().map(|m| m.normal).collect();
+    if planes.iter().flatten().any(|v| outside(*v)) || normals.iter().any(|n| !(n.len() > 1e-12)) {
+        return 11;
+    }
+    if study::planes_square(&normals.iter().map(|n| n.normalized()).collect::<Vec<_>>()).is_err() {
+        return 12;
+    }
+    0
+}
+
 /// 1 to 12 in order, then the first 14; 0 where there is none.
 fn refused_before_rows(o: &Opening, room: &Room) -> u32 {
     let n = o.volumes.len();
@@ -172,7 +198,7 @@ fn refused_before_rows(o: &Opening, room: &Room) -> u32 {
     if n > 65_535 {
         return 3;
     }
-    if o.volumes.iter().any(|v| !(*v > 0.0 && *v <= 1e20)) {
+    if o.volumes.iter().any(|v| volume_outside(*v)) {
         return 4;
     }
     if !(o.fraction > 0.0 && o.fraction < 1.0) {
@@ -185,21 +211,9 @@ fn refused_before_rows(o: &Opening, room: &Room) -> u32 {
     if held + 0.001 * (total - held) >= o.fraction * total {
         return 7;
     }
-    if !(o.radius >= 0.001 && o.radius <= 1e6) {
-        return 8;
-    }
-    if o.centroids.iter().flatten().any(|v| outside(*v)) {
-        return 9;
-    }
-    if o.planes.len() > 3 {
-        return 10;
-    }
-    let planes = mirrors(&o.planes);
-    if o.planes.iter().flatten().any(|v| outside(*v)) || planes.iter().any(|m| !(m.normal.len() > 1e-12)) {
-        return 11;
-    }
-    if study::planes_square(&planes.iter().map(|m| m.normal.normalized()).collect::<Vec<_>>()).is_err() {
-        return 12;
+    let shape = shape_refused(o.radius, &o.centroids, &o.planes);
+    if shape != 0 {
+        return shape;
     }
     let needed = [n, n, n + 1, n, n, n, n, WORDS];
     if room.short(n, o.rounds) || room.opening.iter().zip(needed).any(|(has, needs)| *has < needs) {

@@ -20,10 +20,11 @@ use Rattle.ieee.specs.Basic.{one64}
 use Rattle.ieee.proofs.Basic.{holds}
 use Rattle.ieee.proofs.Order.{le-transitive, le-reflexive}
 use Rattle.ieee.proofs.Bounds.{not-lt-le, lt-le}
+use Rattle.filter.specs.Domain.{volumeBad}
 use Rattle.oc.specs.Start.{xMin, noRoom, solidVolume, targetOf, startDensity}
 use Rattle.lanes.proofs.Order.{Plus, Finite, finite-plus, positive-finite, lt-of-lt-of-le, lt-of-le-of-lt, add-plus, add-grows, mul-plus, div-plus, positive-of-tests, round-plus}
 use Rattle.plain.specs.Formulas.{sumOf}
-use Rattle.plain.specs.Opening.{Opening, elements, solidOf, totalOf, targetAt, volumeBad, fractionBad, firstRefusal}
+use Rattle.plain.specs.Opening.{Opening, elements, solidOf, totalOf, targetAt, fractionBad, firstRefusal}
 use Rattle.bounds.proofs.Floats.{finite-below, cross, add-over, sub-is, sub-under, sub-grows, sub-positive, mul-under, div-under}
 use Rattle.bounds.proofs.Range.{Range}
 

@@ -1,12 +1,14 @@
--- What a build of the table hands back: rows 1, 2, 3, 10, 13 and 14 of 01's "What a refusal hands back". Definitions only.
+-- What a build of the table hands back: rows 1 to 4 and 8 to 14 of 01's "What a refusal hands back". Definitions only.
 use mathlib.Core.Path.{_≡_}
 use mathlib.Core.Bool.{Bool, not, _||_}
 use mathlib.Core.List.{List, [], _∷_}
 use Prim.Native.Nat.{ℕ, _+_, _*_}
-use lib.ListN.{length, drop, replicate}
+use lib.ListN.{length, getD, drop, replicate}
 use lib.Dec.{ltb, eqb}
-use lib.Ieee.{Float}
-use Rattle.lists.specs.Lists.{tabulate, foldTo, choose, zero64, overlay}
+use lib.Ieee.{Float, nan}
+use Rattle.lists.specs.Lists.{tabulate, foldTo, anyTo, choose, zero64, overlay}
+use Rattle.filter.specs.Domain.{volumeBad, radiusBad, centroidBad}
+use Rattle.filter.specs.Group.{planesBad, planesSkew}
 use Rattle.filter.specs.Filter.{start, neighbours, coefficients}
 
 -- the lists that a build is lent: the three filter lists, then those it works in
@@ -79,23 +81,26 @@ shortOf n l =
     || ltb (length (l .cell)) n || ltb (length (l .order)) n || ltb (length (l .first)) (n + 1) || ltb (length (l .sorted)) n
     || ltb (length (l .stamp)) n || ltb (length (l .weight)) n || ltb (length (l .found)) n || ltb (length (l .bits)) words
 
--- what is refused before any row, in 01's order
-unfoldable pub early : ℕ → ℕ → ℕ → Lent → ℕ
-unfolding choose shortOf
-early middles volumes planes l =
-    choose (not (eqb volumes middles)) 1
-    (choose (eqb middles 0) 2
-    (choose (ltb 65535 middles) 3
-    (choose (ltb 3 planes) 10
-    (choose (shortOf middles l) 14 0))))
-
 module _ (centroids : List (List Float)) (volumes : List Float) (radius : Float) (planes : List (List Float)) (l : Lent) where
+  -- what is refused before any row, 0 for none: "1 to 13 in order, but the first 14 comes after 12". A build has no share, rounds or held marks: no 5, 6, 7
+  unfoldable pub early : ℕ
+  early =
+      choose (not (eqb (length volumes) (length centroids))) 1
+      (choose (eqb (length centroids) 0) 2
+      (choose (ltb 65535 (length centroids)) 3
+      (choose (anyTo (λ k. volumeBad (getD volumes k nan)) (length volumes)) 4
+      (choose (radiusBad radius) 8
+      (choose (anyTo (λ k. centroidBad (getD centroids k [])) (length centroids)) 9
+      (choose (ltb 3 (length planes)) 10
+      (choose (planesBad planes) 11
+      (choose (planesSkew planes) 12
+      (choose (shortOf (length centroids) l) 14 0)))))))))
+
   unfoldable pub outcome : Outcome
   unfolding choose early rowsRefusal
   outcome =
-      let before = early (length centroids) (length volumes) (length planes) l in
       let rows = rowsRefusal centroids radius planes (length (l .near)) (length (l .coef)) (length centroids) in
-      choose (eqb before 0) (choose (eqb rows 0) built (zeroed rows)) (kept before)
+      choose (eqb early 0) (choose (eqb rows 0) built (zeroed rows)) (kept early)
 
   -- what a build answers, and what it leaves in the lists
   pub record Built (answer : ℕ) (l' : Lent) : Type 0 where

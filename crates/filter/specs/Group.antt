@@ -3,13 +3,14 @@ use Prim.Native.Nat.{ℕ, _/_, _%_, _^_}
 use mathlib.Core.Bool.{Bool, not, _||_}
 use mathlib.Core.List.{List, [], _∷_, map}
 use lib.ListN.{length, getD}
-use lib.Dec.{eqb}
-use lib.Ieee.{Float, nan, binary64, le, lt, ofBits}
+use lib.Dec.{eqb, ltb}
+use lib.Ieee.{Float, nan, binary64, lt, ofBits}
 use Rattle.lists.specs.Lists.{anyTo, choose}
 use Rattle.ieee.specs.Basic.{absOf}
 use Rattle.geom.specs.Vectors.{vec, dot, len, normalized, image}
 use Rattle.geom.specs.declared.Vec3.{Vec3}
 use Rattle.geom.specs.declared.Mirror.{Mirror}
+use Rattle.filter.specs.Domain.{outsideDomain}
 
 -- a lent point: x, y, z
 abbrev pub point : List Float → Vec3
@@ -19,19 +20,12 @@ point p = vec (getD p 0 nan) (getD p 1 nan) (getD p 2 nan)
 abbrev pub plane : List Float → Mirror
 plane p = record { point = point p; normal = vec (getD p 3 nan) (getD p 4 nan) (getD p 5 nan) }
 
--- 1,000,000, 1e-12 and 1e-9
-abbrev pub million64 : Float
-million64 = ofBits binary64 0x412e_8480_0000_0000
-
+-- 1e-12 and 1e-9
 abbrev pub shortest64 : Float
 shortest64 = ofBits binary64 0x3d71_9799_812d_ea11
 
 abbrev pub square64 : Float
 square64 = ofBits binary64 0x3e11_2e0b_e826_d695
-
--- 01: "Coordinates of nodes, middles and planes are finite, magnitude at most 1,000,000 mm": v is no such coordinate
-abbrev pub outsideDomain : Float → Bool
-outsideDomain v = not (le (absOf v) million64)
 
 -- 11: "plane outside the domain, or normal length not above 1e-12"; the coordinates of a plane are those of its point and of its normal
 unfoldable pub planeBad : List Float → Bool
@@ -62,6 +56,10 @@ skewBefore planes j = anyTo (λ i. skew (unit (plane (getD planes i []))) (unit 
 unfoldable pub planesSkew : List (List Float) → Bool
 unfolding anyTo skewBefore
 planesSkew planes = anyTo (skewBefore planes) (length planes)
+
+-- 10: "more than three planes"; 11: "plane outside the domain, or normal length not above 1e-12"; 12: "planes not square"; or what is refused after them
+abbrev pub planesRefusal : List (List Float) → ℕ → ℕ
+planesRefusal planes rest = choose (ltb 3 (length planes)) 10 (choose (planesBad planes) 11 (choose (planesSkew planes) 12 rest))
 
 -- the members are numbered by the sets of planes, of which the first has the lowest bit; 0 is the identity
 abbrev pub members : List (List Float) → ℕ

@@ -5,8 +5,9 @@ ghost use Prim.Native.Nat.{_≤_, _<_};
 ghost use lib.ListN.{length, getD};
 ghost use Rattle.lists.specs.Lists.{choose};
 ghost use Rattle.geom.specs.Vectors as Vectors;
-ghost use Rattle.filter.specs.Group.{plane, unit, skew, planeBad, planesBad, skewBefore, planesSkew, mirrors, imageIn, outsideDomain};
+ghost use Rattle.filter.specs.Group.{plane, unit, skew, planeBad, planesBad, skewBefore, planesSkew, planesRefusal, mirrors, imageIn};
 ghost use Rattle.filter.specs.Planes.{mirrorsOf, standIn};
+use crate::domain::beyond;
 use geom::Mirror;
 use geom::Vec3;
 
@@ -35,12 +36,6 @@ fn mirror(p: [f64; 6]) -> Mirror
     }
 }
 
-fn beyond(v: f64) -> bool
-    ensures { λ r. ⌜ r ≡ outsideDomain v ⌝ }
-{
-    !(ieee::abs(v) <= 1000000.0)
-}
-
 // Whether a plane is outside the domain, or its normal no longer than 1e-12.
 pub fn plane_bad(p: [f64; 6]) -> bool
     ensures { λ r. ⌜ r ≡ planeBad p ⌝ }
@@ -54,7 +49,7 @@ pub fn plane_bad(p: [f64; 6]) -> bool
     a | !(normal.len() > 1e-12)
 }
 
-pub fn planes_bad(planes: &[[f64; 6]]) -> bool
+fn planes_bad(planes: &[[f64; 6]]) -> bool
     ensures { λ r. ⌜ r ≡ planesBad (now (planes .entry)) ⌝ }
 {
     let mut t = false;
@@ -104,7 +99,7 @@ fn leans(planes: &[[f64; 6]], j: usize) -> bool
 }
 
 // Whether the planes are square to each other, pair by pair.
-pub fn planes_square(planes: &[[f64; 6]]) -> bool
+fn planes_square(planes: &[[f64; 6]]) -> bool
     ensures { λ r. ⌜ r ≡ not (planesSkew (now (planes .entry))) ⌝ }
 {
     let mut t = false;
@@ -114,6 +109,19 @@ pub fn planes_square(planes: &[[f64; 6]]) -> bool
         j += 1usize;
     }
     !t
+}
+
+// 10, 11 and 12 in this order, or what is refused after them. More than three planes are not looked at pair by pair.
+pub fn refusal(planes: &[[f64; 6]], rest: u32) -> u32
+    ensures { λ r. ⌜ r ≡ planesRefusal (now (planes .entry)) rest ⌝ }
+{
+    let many = 3 < planes.len();
+    if many {
+        return 10;
+    }
+    let bad = planes_bad(planes);
+    let skew = !planes_square(planes);
+    lists::first(bad, 11, lists::first(skew, 12, rest))
 }
 
 fn unit_at(planes: &[[f64; 6]], k: usize) -> Mirror

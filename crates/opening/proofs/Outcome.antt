@@ -6,11 +6,14 @@ use mathlib.Core.List.{List, [], _∷_}
 use Prim.Native.Nat.{ℕ, suc, _+_}
 use native.Mathlib.Numerals.{add-one}
 use native.Mathlib.Omega.{arith}
-use lib.ListN.{length}
+use lib.ListN.{length, getD}
 use lib.Dec.{ltb, eqb}
+use lib.Ieee.{nan}
 use borrow.Author.Tests.{eqb-true, eq-eqb, not-false}
-use Rattle.lists.specs.Lists.{choose}
+use Rattle.lists.specs.Lists.{anyTo, choose}
 use Rattle.lists.proofs.Laws.{passes-on, neither}
+use Rattle.filter.specs.Domain.{volumeBad, radiusBad, centroidBad}
+use Rattle.filter.specs.Group.{planesBad, planesSkew}
 use Rattle.filter.specs.Build.{Lent, zeroed, built, shortOf, early, outcome}
 use Rattle.plain.specs.declared.Entry.the-variants.{Kept, Zeroed}
 use Rattle.plain.specs.Lent.{short, openWork, runShort, openShort}
@@ -36,7 +39,12 @@ module _ (o : Opening) where
     pub marks : not (eqb (length (o .passive)) (elements o)) ≡ false
     pub some : eqb (elements o) 0 ≡ false
     pub few : ltb 65535 (elements o) ≡ false
-    pub planes : ltb 3 (length (o .mirrors)) ≡ false
+    pub volumes : anyTo (λ k. volumeBad (getD (o .volumes) k nan)) (elements o) ≡ false
+    pub radius : radiusBad (o .goal .radius) ≡ false
+    pub inside : anyTo (λ k. centroidBad (getD (o .centroids) k [])) (elements o) ≡ false
+    pub three : ltb 3 (length (o .mirrors)) ≡ false
+    pub planes : planesBad (o .mirrors) ≡ false
+    pub square : planesSkew (o .mirrors) ≡ false
     pub room : openShort (elements o) (o .goal .«max_iterations») (o .lent) ≡ false
 
   pub passed : firstRefusal o ≡ 0 → Passed
@@ -56,7 +64,7 @@ module _ (o : Opening) where
       let p12 = passes-on _ 12 _ (omega arith) (p11 .1) in
       let p14 = passes-on _ 14 _ (omega arith) (p12 .1) in
       let d = neither (not (eqb (length (o .centroids)) (elements o))) _ (p1 .0) in
-      record { middles = d .0; marks = d .1; some = p2 .0; few = p3 .0; planes = p10 .0; room = p14 .0 }
+      record { middles = d .0; marks = d .1; some = p2 .0; few = p3 .0; volumes = p4 .0; radius = p8 .0; inside = p9 .0; three = p10 .0; planes = p11 .0; square = p12 .0; room = p14 .0 }
 
 -- the lists that a build is lent have the lengths that the opening looked at
 pub record Same (o : Opening) (l : Lent) : Type 0 where
@@ -95,14 +103,15 @@ room-none o l s p =
     let f′ = ap (ltb (length (l .first))) one ∙ f .0 in
     holds-not _ _ (holds-not _ _ (holds-not _ _ (holds-not _ _ (holds-not _ _ (holds-not _ _ (holds-not _ _ (holds-not _ _ a′ (n′ _ (c .0))) (n′ _ (d .0))) f′) (n′ _ (g .0))) (n′ _ (h .0))) (n′ _ (j .0))) (n′ _ (k .0))) (m .0)
 
-early-none : (o : Opening) (l : Lent) → Same o l → Passed o → early (length (o .centroids)) (elements o) (length (o .mirrors)) l ≡ 0
+early-none : (o : Opening) (l : Lent) → Same o l → Passed o → early (o .centroids) (o .volumes) (o .goal .radius) (o .mirrors) l ≡ 0
 unfolding early choose
 early-none o l s p =
     let long : length (o .centroids) ≡ elements o = eqb-true _ _ (not-false _ (p .middles)) in
     let t1 : not (eqb (elements o) (length (o .centroids))) ≡ false = ap not (eq-eqb _ _ (sym long)) in
     let t2 : eqb (length (o .centroids)) 0 ≡ false = ap (λ (k : ℕ). eqb k 0) long ∙ p .some in
     let t3 : ltb 65535 (length (o .centroids)) ≡ false = ap (ltb 65535) long ∙ p .few in
-    rw (t1, t2, t3, p .planes, room-none o l s p)
+    let t9 : anyTo (λ k. centroidBad (getD (o .centroids) k [])) (length (o .centroids)) ≡ false = ap (anyTo (λ k. centroidBad (getD (o .centroids) k []))) long ∙ p .inside in
+    rw (t1, t2, t3, p .volumes, p .radius, t9, p .three, p .planes, p .square, room-none o l s p)
 
 -- the build's outcome, where nothing is refused before the rows
 pub outcome-is : (o : Opening) (l : Lent) → Same o l → firstRefusal o ≡ 0

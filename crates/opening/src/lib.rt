@@ -2,67 +2,22 @@
 ghost use mathlib.Core.Path.{_≡_};
 ghost use mathlib.Core.List.{[], _∷_, _++_};
 ghost use Prim.Native.Nat.{_≤_, _<_};
-ghost use lib.ListN.{length, getD, drop};
-ghost use lib.Ieee.{nan};
-ghost use Rattle.lists.specs.Lists.{anyTo, overwrite, zero64};
+ghost use lib.ListN.{length, drop};
+ghost use Rattle.lists.specs.Lists.{overwrite, zero64};
 ghost use Rattle.ieee.specs.Basic.{one64};
 ghost use Rattle.oc.specs.Start.{solidVolume, targetOf, startDensity, startDesign};
 ghost use Rattle.plain.specs.Lent.{openShort};
 ghost use Rattle.plain.specs.Formulas.{sumOf};
-ghost use Rattle.plain.specs.Opening.{volumeBad, fractionBad, radiusBad, centroidBad, firstRefusal};
+ghost use Rattle.plain.specs.Opening.{fractionBad, firstRefusal};
 ghost use Rattle.opening.specs.Asked.{opening};
 use plain::Phase;
 use plain::State;
 use topo::Goal;
 
-fn volume_bad(v: f64) -> bool
-    ensures { λ r. ⌜ r ≡ volumeBad v ⌝ }
-{
-    !((v > 0.0) & (v <= 1e20))
-}
-
-fn volumes_bad(volumes: &[f64]) -> bool
-    ensures { λ r. ⌜ r ≡ anyTo (λ k. volumeBad (getD (now (volumes .entry)) k nan)) (length (now (volumes .entry))) ⌝ }
-{
-    let mut t = false;
-    let mut i = 0usize;
-    while i < volumes.len() {
-        t = t | volume_bad(volumes[i]);
-        i += 1usize;
-    }
-    t
-}
-
 fn fraction_bad(f: f64) -> bool
     ensures { λ r. ⌜ r ≡ fractionBad f ⌝ }
 {
     !((f > 0.0) & (f < 1.0))
-}
-
-fn radius_bad(r: f64) -> bool
-    ensures { λ t. ⌜ t ≡ radiusBad r ⌝ }
-{
-    !((0.001 <= r) & (r <= 1000000.0))
-}
-
-fn centroid_bad(p: [f64; 3]) -> bool
-    ensures { λ r. ⌜ r ≡ centroidBad p ⌝ }
-{
-    !(ieee::abs(p[0]) <= 1000000.0)
-        | !(ieee::abs(p[1]) <= 1000000.0)
-        | !(ieee::abs(p[2]) <= 1000000.0)
-}
-
-fn centroids_bad(centroids: &[[f64; 3]]) -> bool
-    ensures { λ r. ⌜ r ≡ anyTo (λ k. centroidBad (getD (now (centroids .entry)) k [])) (length (now (centroids .entry))) ⌝ }
-{
-    let mut t = false;
-    let mut i = 0usize;
-    while i < centroids.len() {
-        t = t | centroid_bad(centroids[i]);
-        i += 1usize;
-    }
-    t
 }
 
 fn too_short(
@@ -165,15 +120,13 @@ pub fn refusal(
         bits,
     );
     let rest = lists::first(short, 14, 0);
-    let rest = lists::first(!filter::group::planes_square(mirrors), 12, rest);
-    let rest = lists::first(filter::group::planes_bad(mirrors), 11, rest);
-    let rest = lists::first(3 < mirrors.len(), 10, rest);
-    let rest = lists::first(centroids_bad(centroids), 9, rest);
-    let rest = lists::first(radius_bad(goal.radius), 8, rest);
+    let rest = filter::group::refusal(mirrors, rest);
+    let rest = lists::first(filter::domain::centroids_bad(centroids), 9, rest);
+    let rest = lists::first(filter::domain::radius_bad(goal.radius), 8, rest);
     let rest = lists::first(oc::start::no_room(solid, total, target), 7, rest);
     let rest = lists::first(goal.max_iterations == 0, 6, rest);
     let rest = lists::first(fraction_bad(goal.fraction), 5, rest);
-    lists::first(volumes_bad(volumes), 4, rest)
+    lists::first(filter::domain::volumes_bad(volumes), 4, rest)
 }
 
 // The solid question's densities, 1 for each of n elements.

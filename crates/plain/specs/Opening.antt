@@ -4,14 +4,15 @@ use mathlib.Core.List.{List, []}
 use Prim.Native.Nat.{ℕ, zero, suc, _+_}
 use lib.ListN.{length, getD}
 use lib.Dec.{ltb, eqb}
-use lib.Ieee.{Float, nan, binary64, lt, le, ofBits}
+use lib.Ieee.{Float, nan, lt}
 use Rattle.lists.specs.Lists.{tabulate, anyTo, choose, zero64}
 use Rattle.ieee.specs.Basic.{one64}
 use Rattle.topo.specs.declared.Goal.{Goal}
-use Rattle.filter.specs.Group.{million64, outsideDomain, planesBad, planesSkew}
+use Rattle.filter.specs.Domain.{volumeBad, radiusBad, centroidBad}
+use Rattle.filter.specs.Group.{planesBad, planesSkew}
 use Rattle.filter.specs.Filter.{neighbours, start, coefficients}
 use Rattle.filter.specs.Build.{rowsRefusal}
-use Rattle.oc.specs.Start.{xMin, noRoom, solidVolume, targetOf, startDensity, startDesign}
+use Rattle.oc.specs.Start.{noRoom, solidVolume, targetOf, startDensity, startDesign}
 use Rattle.plain.specs.declared.Entry.{Entry}
 use Rattle.plain.specs.declared.Entry.the-variants.{Kept, Zeroed, Shut, Opens}
 use Rattle.plain.specs.Lent.{Sizes, openShort}
@@ -27,21 +28,9 @@ pub record Opening : Type 0 where
   pub flag : Bool
   pub lent : Sizes
 
--- 4: "a volume outside the domain": "A volume is above 0 and at most 10^20 mm³."
-abbrev pub volumeBad : Float → Bool
-volumeBad v = not (lt zero64 v && le v (ofBits binary64 0x4415_af1d_78b5_8c40))
-
 -- 5: "share not above 0 and below 1"
 abbrev pub fractionBad : Float → Bool
 fractionBad f = not (lt zero64 f && lt f one64)
-
--- 8: "radius [..] outside the domain": "from 0.001 to 1,000,000 mm"
-abbrev pub radiusBad : Float → Bool
-radiusBad r = not (le xMin r && le r million64)
-
--- 9: "middle [..] outside the domain"
-abbrev pub centroidBad : List Float → Bool
-centroidBad p = outsideDomain (getD p 0 nan) || outsideDomain (getD p 1 nan) || outsideDomain (getD p 2 nan)
 
 module _ (o : Opening) where
   abbrev pub elements : ℕ

@@ -110,7 +110,7 @@ module _ (centroids : List (List Float)) (volumes : List Float) (radius : Float)
   -- a build that answers 0 has built the table
   pub accepted : outcome centroids volumes radius planes l ≡ built
   unfolding outcome
-  accepted = accepted-is (early (length centroids) (length volumes) (length planes) l) (rowsRefusal centroids radius planes (length (l .near)) (length (l .coef)) (length centroids)) (sym (b .number))
+  accepted = accepted-is (early centroids volumes radius planes l) (rowsRefusal centroids radius planes (length (l .near)) (length (l .coef)) (length centroids)) (sym (b .number))
 
   starts-are : l' .starts ≡ overlay (tabulate begins (n + 1)) (l .starts)
   starts-are = rw accepted at (b .starts)

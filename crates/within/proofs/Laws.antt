@@ -16,46 +16,53 @@ use Rattle.rows.specs.Steps.{Filled, Roomy, Past}
 use Rattle.within.specs.Wiped.{Wiped}
 use Rattle.within.specs.Steps.{shortBy, earlyBy}
 
-pub early-is : (middles volumes planes : ℕ) (l : Lent) → early middles volumes planes l
-    ≡ earlyBy middles volumes planes (length (l .starts)) (length (l .cell)) (length (l .order)) (length (l .first)) (length (l .sorted)) (length (l .stamp)) (length (l .weight)) (length (l .found)) (length (l .bits))
-unfolding early shortOf earlyBy shortBy
-early-is middles volumes planes l = refl
+module _ (centroids : List (List Float)) (volumes : List Float) (radius : Float) (planes : List (List Float)) where
+  pub early-is : (l : Lent) → early centroids volumes radius planes l
+      ≡ earlyBy centroids volumes radius planes (length (l .starts)) (length (l .cell)) (length (l .order)) (length (l .first)) (length (l .sorted)) (length (l .stamp)) (length (l .weight)) (length (l .found)) (length (l .bits))
+  unfolding early shortOf earlyBy shortBy
+  early-is l = refl
 
--- where nothing is refused before the rows, the lists have room
-pub roomy : (n volumes planes starts cell order first sorted stamp weight found bits : ℕ) → earlyBy n volumes planes starts cell order first sorted stamp weight found bits ≡ 0
-    → Roomy n volumes planes starts cell order first sorted stamp weight found bits
-unfolding earlyBy shortBy
-roomy n volumes planes starts cell order first sorted stamp weight found bits e =
-    let p1 = passes-on (not (eqb volumes n)) 1 _ (omega arith) e in
-    let p2 = passes-on (eqb n 0) 2 _ (omega arith) (p1 .1) in
-    let p3 = passes-on (ltb 65535 n) 3 _ (omega arith) (p2 .1) in
-    let p4 = passes-on (ltb 3 planes) 10 _ (omega arith) (p3 .1) in
-    let p5 = passes-on _ 14 0 (omega arith) (p4 .1) in
-    let s9 = neither _ (ltb bits 1040) (p5 .0) in
-    let s8 = neither _ (ltb found n) (s9 .0) in
-    let s7 = neither _ (ltb weight n) (s8 .0) in
-    let s6 = neither _ (ltb stamp n) (s7 .0) in
-    let s5 = neither _ (ltb sorted n) (s6 .0) in
-    let s4 = neither _ (ltb first (n + 1)) (s5 .0) in
-    let s3 = neither _ (ltb order n) (s4 .0) in
-    let s2 = neither (ltb starts (n + 1)) (ltb cell n) (s3 .0) in
-    let few : n ≤ 65535 = ltb-false 65535 n (p3 .0) in
-    let begun : n + 1 ≤ starts = ltb-false starts (n + 1) (s2 .0) in
-    record {
-      some = omega (arith, eqb-false n 0 (p2 .0));
-      few = omega arith;
-      volumed = eqb-true volumes n (not-false (eqb volumes n) (p1 .0));
-      three = ltb-false 3 planes (p4 .0);
-      begun = omega arith;
-      cells = ltb-false cell n (s2 .1);
-      orders = ltb-false order n (s3 .1);
-      firsts = ltb-false first (n + 1) (s4 .1);
-      sorteds = ltb-false sorted n (s5 .1);
-      stamps = ltb-false stamp n (s6 .1);
-      weights = ltb-false weight n (s7 .1);
-      founds = ltb-false found n (s8 .1);
-      maps = ltb-false bits 1040 (s9 .1);
-    }
+  -- where nothing is refused before the rows, the lists have room
+  pub roomy : (starts cell order first sorted stamp weight found bits : ℕ) → earlyBy centroids volumes radius planes starts cell order first sorted stamp weight found bits ≡ 0
+      → Roomy (length centroids) (length volumes) (length planes) starts cell order first sorted stamp weight found bits
+  unfolding earlyBy shortBy
+  roomy starts cell order first sorted stamp weight found bits e =
+      let n = length centroids in
+      let p1 = passes-on (not (eqb (length volumes) n)) 1 _ (omega arith) e in
+      let p2 = passes-on (eqb n 0) 2 _ (omega arith) (p1 .1) in
+      let p3 = passes-on (ltb 65535 n) 3 _ (omega arith) (p2 .1) in
+      let p4 = passes-on _ 4 _ (omega arith) (p3 .1) in
+      let p8 = passes-on _ 8 _ (omega arith) (p4 .1) in
+      let p9 = passes-on _ 9 _ (omega arith) (p8 .1) in
+      let p10 = passes-on (ltb 3 (length planes)) 10 _ (omega arith) (p9 .1) in
+      let p11 = passes-on _ 11 _ (omega arith) (p10 .1) in
+      let p12 = passes-on _ 12 _ (omega arith) (p11 .1) in
+      let p14 = passes-on _ 14 0 (omega arith) (p12 .1) in
+      let s9 = neither _ (ltb bits 1040) (p14 .0) in
+      let s8 = neither _ (ltb found n) (s9 .0) in
+      let s7 = neither _ (ltb weight n) (s8 .0) in
+      let s6 = neither _ (ltb stamp n) (s7 .0) in
+      let s5 = neither _ (ltb sorted n) (s6 .0) in
+      let s4 = neither _ (ltb first (n + 1)) (s5 .0) in
+      let s3 = neither _ (ltb order n) (s4 .0) in
+      let s2 = neither (ltb starts (n + 1)) (ltb cell n) (s3 .0) in
+      let few : n ≤ 65535 = ltb-false 65535 n (p3 .0) in
+      let begun : n + 1 ≤ starts = ltb-false starts (n + 1) (s2 .0) in
+      record {
+        some = omega (arith, eqb-false n 0 (p2 .0));
+        few = omega arith;
+        volumed = eqb-true (length volumes) n (not-false (eqb (length volumes) n) (p1 .0));
+        three = ltb-false 3 (length planes) (p10 .0);
+        begun = omega arith;
+        cells = ltb-false cell n (s2 .1);
+        orders = ltb-false order n (s3 .1);
+        firsts = ltb-false first (n + 1) (s4 .1);
+        sorteds = ltb-false sorted n (s5 .1);
+        stamps = ltb-false stamp n (s6 .1);
+        weights = ltb-false weight n (s7 .1);
+        founds = ltb-false found n (s8 .1);
+        maps = ltb-false bits 1040 (s9 .1);
+      }
 
 pub none : (k : ℕ) → k ≤ 0 → k ≡ 0
 none k h = omega arith
@@ -73,14 +80,14 @@ laid-tabulate f n l h = overwrite-is f n l h ∙ ap (λ (k : ℕ). tabulate f n 
 
 module _ (centroids : List (List Float)) (volumes : List Float) (radius : Float) (planes : List (List Float)) (l : Lent) where
   abbrev before : ℕ
-  before = earlyBy (length centroids) (length volumes) (length planes) (length (l .starts)) (length (l .cell)) (length (l .order)) (length (l .first)) (length (l .sorted)) (length (l .stamp)) (length (l .weight)) (length (l .found)) (length (l .bits))
+  before = earlyBy centroids volumes radius planes (length (l .starts)) (length (l .cell)) (length (l .order)) (length (l .first)) (length (l .sorted)) (length (l .stamp)) (length (l .weight)) (length (l .found)) (length (l .bits))
 
   abbrev rows : ℕ
   rows = rowsRefusal centroids radius planes (length (l .near)) (length (l .coef)) (length centroids)
 
   outcome-is : outcome centroids volumes radius planes l ≡ choose (eqb before 0) (choose (eqb rows 0) built (zeroed rows)) (kept before)
   unfolding outcome
-  outcome-is = ap (λ (k : ℕ). choose (eqb k 0) (choose (eqb rows 0) built (zeroed rows)) (kept k)) (early-is (length centroids) (length volumes) (length planes) l)
+  outcome-is = ap (λ (k : ℕ). choose (eqb k 0) (choose (eqb rows 0) built (zeroed rows)) (kept k)) (early-is centroids volumes radius planes l)
 
   -- refused before any row
   pub refuses : (k : ℕ) → k ≡ before → 0 < k → Built centroids volumes radius planes l k l

@@ -35,9 +35,10 @@ fn too_short(
 
 // What is refused before any row, in 01's order, or 0.
 fn refusal(
-    middles: usize,
-    volumes: usize,
-    planes: usize,
+    centroids: &[[f64; 3]],
+    volumes: &[f64],
+    radius: f64,
+    planes: &[[f64; 6]],
     starts: usize,
     cell: usize,
     order: usize,
@@ -48,22 +49,23 @@ fn refusal(
     found: usize,
     bits: usize,
 ) -> u32
-    ensures { λ r. ⌜ r ≡ earlyBy middles volumes planes starts cell order first sorted stamp weight found bits ⌝ }
+    ensures { λ r. ⌜ r ≡ earlyBy (now (centroids .entry)) (now (volumes .entry)) radius (now (planes .entry)) starts cell order first sorted stamp weight found bits ⌝ }
 {
-    let differ = volumes != middles;
+    let n = centroids.len();
+    let differ = volumes.len() != n;
     if differ {
         return 1;
     }
-    let none = middles == 0;
+    let none = n == 0;
     if none {
         return 2;
     }
-    let many = 65535 < middles;
+    let many = 65535 < n;
     if many {
         return 3;
     }
     let short = too_short(
-        middles,
+        n,
         starts,
         cell,
         order,
@@ -74,7 +76,11 @@ fn refusal(
         found,
         bits,
     );
-    lists::first(3 < planes, 10, lists::first(short, 14, 0))
+    let rest = lists::first(short, 14, 0);
+    let rest = filter::group::refusal(planes, rest);
+    let rest = lists::first(filter::domain::centroids_bad(centroids), 9, rest);
+    let rest = lists::first(filter::domain::radius_bad(radius), 8, rest);
+    lists::first(filter::domain::volumes_bad(volumes), 4, rest)
 }
 
 // The working lists set to zero, to their ends.
@@ -130,9 +136,10 @@ pub fn build(
     ensures { λ r. ⌜ Built (now (centroids .entry)) (now (volumes .entry)) radius (now (planes .entry)) (record { starts = now (starts .entry); near = now (near .entry); coef = now (coef .entry); cell = now (cell .entry); order = now (order .entry); first = now (first .entry); sorted = now (sorted .entry); stamp = now (stamp .entry); weight = now (weight .entry); found = now (found .entry); bits = now (bits .entry) }) r (record { starts = now (starts .exit); near = now (near .exit); coef = now (coef .exit); cell = now (cell .exit); order = now (order .exit); first = now (first .exit); sorted = now (sorted .exit); stamp = now (stamp .exit); weight = now (weight .exit); found = now (found .exit); bits = now (bits .exit) }) ⌝ }
 {
     let early = refusal(
-        centroids.len(),
-        volumes.len(),
-        planes.len(),
+        centroids,
+        volumes,
+        radius,
+        planes,
         starts.len(),
         cell.len(),
         order.len(),

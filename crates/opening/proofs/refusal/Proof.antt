@@ -37,58 +37,46 @@ too-short-requires c κs = search needs
 first-requires : tie.Need-first-requires
 first-requires c κs = search needs
 
-planes-square-requires : tie.Need-planes-square-requires
-planes-square-requires c κs = search needs
-
-first-requires-2 : tie.Need-first-requires-2
-first-requires-2 c κs = search needs
-
-planes-bad-requires : tie.Need-planes-bad-requires
-planes-bad-requires c κs = search needs
-
-first-requires-3 : tie.Need-first-requires-3
-first-requires-3 c κs = search needs
-
-first-requires-4 : tie.Need-first-requires-4
-first-requires-4 c κs = search needs
+refusal-requires : tie.Need-refusal-requires
+refusal-requires c κs = search needs
 
 centroids-bad-requires : tie.Need-centroids-bad-requires
 centroids-bad-requires c κs = search needs
 
-first-requires-5 : tie.Need-first-requires-5
-first-requires-5 c κs = search needs
+first-requires-2 : tie.Need-first-requires-2
+first-requires-2 c κs = search needs
 
 radius-bad-requires : tie.Need-radius-bad-requires
 radius-bad-requires c κs = search needs
 
-first-requires-6 : tie.Need-first-requires-6
-first-requires-6 c κs = search needs
+first-requires-3 : tie.Need-first-requires-3
+first-requires-3 c κs = search needs
 
 no-room-requires : tie.Need-no-room-requires
 no-room-requires c κs = search needs
 
-first-requires-7 : tie.Need-first-requires-7
-first-requires-7 c κs = search needs
+first-requires-4 : tie.Need-first-requires-4
+first-requires-4 c κs = search needs
 
-first-requires-8 : tie.Need-first-requires-8
-first-requires-8 c κs = search needs
+first-requires-5 : tie.Need-first-requires-5
+first-requires-5 c κs = search needs
 
 fraction-bad-requires : tie.Need-fraction-bad-requires
 fraction-bad-requires c κs = search needs
 
-first-requires-9 : tie.Need-first-requires-9
-first-requires-9 c κs = search needs
+first-requires-6 : tie.Need-first-requires-6
+first-requires-6 c κs = search needs
 
 volumes-bad-requires : tie.Need-volumes-bad-requires
 volumes-bad-requires c κs = search needs
 
-first-requires-10 : tie.Need-first-requires-10
-first-requires-10 c κs = search needs
+first-requires-7 : tie.Need-first-requires-7
+first-requires-7 c κs = search needs
 
 returns-4 : tie.Need-returns-4
-returns-4 c = let a = c .before .before .before .before .before .before .before .before .before .before .before .before .before .before .before .before .before .before .before .before .before .before .before .before .before .before .before .args in
+returns-4 c = let a = c .before .before .before .before .before .before .before .before .before .before .before .before .before .before .before .before .before .before .before .before .before .before .before .args in
     let o = opening (a .goal) (a .flag) (now (a .volumes)) (now (a .centroids)) (now (a .passive)) (now (a .mirrors)) (a .starts) (a .near) (a .coef) (a .design) (a .density) (a .last) (a .history) (a .cell ∷ a .order ∷ a .first ∷ a .sorted ∷ a .stamp ∷ a .weight ∷ a .found ∷ a .bits ∷ []) in
-    rest-is o _ _ _ _ _ _ _ _ _ _ _ _ _ _ _ _ _ _ _ _ _ (c .before .before .before .before .before .before .before .before .before .before .before .before .before .before .before .before .before .before .before .before .before .before .before .before .if1 .left) (c .before .before .before .before .before .before .before .before .before .before .before .before .before .before .before .before .before .before .before .before .before .before .before .if2 .left) (c .before .before .before .before .before .before .before .before .before .before .before .before .before .before .before .before .before .before .before .before .before .before .if3 .left) (c .before .before .before .before .before .before .before .before .before .before .before .before .before .before .before .before .before .before .before .before .before .sum .ensures) (c .before .before .before .before .before .before .before .before .before .before .before .before .before .before .before .before .before .before .before .before .solid-volume .ensures) (c .before .before .before .before .before .before .before .before .before .before .before .before .before .before .before .before .before .before .before .target .ensures) (c .before .before .before .before .before .before .before .before .before .before .before .before .before .before .before .before .before .before .too-short .ensures) (c .before .before .before .before .before .before .before .before .before .before .before .before .before .before .before .before .before .first .ensures) (c .before .before .before .before .before .before .before .before .before .before .before .before .before .before .before .before .planes-square .ensures) (c .before .before .before .before .before .before .before .before .before .before .before .before .before .before .before .first2 .ensures) (c .before .before .before .before .before .before .before .before .before .before .before .before .before .before .planes-bad .ensures) (c .before .before .before .before .before .before .before .before .before .before .before .before .before .first3 .ensures) (c .before .before .before .before .before .before .before .before .before .before .before .before .first4 .ensures) (c .before .before .before .before .before .before .before .before .before .before .before .centroids-bad .ensures) (c .before .before .before .before .before .before .before .before .before .before .first5 .ensures) (c .before .before .before .before .before .before .before .before .before .radius-bad .ensures) (c .before .before .before .before .before .before .before .before .first6 .ensures) (c .before .before .before .before .before .before .before .no-room .ensures) (c .before .before .before .before .before .before .first7 .ensures) (c .before .before .before .before .first8 .ensures) (c .before .before .before .fraction-bad .ensures) (c .before .before .first9 .ensures) (c .before .volumes-bad .ensures) (c .first10 .ensures)
+    rest-is o _ _ _ _ _ _ _ _ _ _ _ _ _ _ _ _ _ (c .before .before .before .before .before .before .before .before .before .before .before .before .before .before .before .before .before .before .before .before .if1 .left) (c .before .before .before .before .before .before .before .before .before .before .before .before .before .before .before .before .before .before .before .if2 .left) (c .before .before .before .before .before .before .before .before .before .before .before .before .before .before .before .before .before .before .if3 .left) (c .before .before .before .before .before .before .before .before .before .before .before .before .before .before .before .before .before .sum .ensures) (c .before .before .before .before .before .before .before .before .before .before .before .before .before .before .before .before .solid-volume .ensures) (c .before .before .before .before .before .before .before .before .before .before .before .before .before .before .before .target .ensures) (c .before .before .before .before .before .before .before .before .before .before .before .before .before .before .too-short .ensures) (c .before .before .before .before .before .before .before .before .before .before .before .before .before .first .ensures) (c .before .before .before .before .before .before .before .before .before .before .before .before .refusal .ensures) (c .before .before .before .before .before .before .before .before .before .before .before .centroids-bad .ensures) (c .before .before .before .before .before .before .before .before .before .before .first2 .ensures) (c .before .before .before .before .before .before .before .before .before .radius-bad .ensures) (c .before .before .before .before .before .before .before .before .first3 .ensures) (c .before .before .before .before .before .before .before .no-room .ensures) (c .before .before .before .before .before .before .first4 .ensures) (c .before .before .before .before .first5 .ensures) (c .before .before .before .fraction-bad .ensures) (c .before .before .first6 .ensures) (c .before .volumes-bad .ensures) (c .first7 .ensures)
 
 pub refusal-spec : {M : Type 1} → statement M
 refusal-spec =
@@ -102,20 +90,16 @@ refusal-spec =
     target-requires
     too-short-requires
     first-requires
-    planes-square-requires
-    first-requires-2
-    planes-bad-requires
-    first-requires-3
-    first-requires-4
+    refusal-requires
     centroids-bad-requires
-    first-requires-5
+    first-requires-2
     radius-bad-requires
-    first-requires-6
+    first-requires-3
     no-room-requires
-    first-requires-7
-    first-requires-8
+    first-requires-4
+    first-requires-5
     fraction-bad-requires
-    first-requires-9
+    first-requires-6
     volumes-bad-requires
-    first-requires-10
+    first-requires-7
     returns-4)

@@ -20,7 +20,7 @@ returns c = let a = c .before .before .before .before .before .before .before .b
 fill-front-requires : tie.Need-fill-front-requires
 fill-front-requires c κs = let a = c .before .before .before .before .before .before .before .before .before .before .before .before .before .before .before .before .before .before .before .before .before .before .before .args in
     let r = c .before .before .before .before .before .before .before .before .before .before .before .before .refusal in
-    roomy (length (now (a .centroids))) (length (now (a .volumes))) (length (now (a .planes))) (length (now (a .starts))) (length (now (a .cell))) (length (now (a .order))) (length (now (a .first))) (length (now (a .sorted))) (length (now (a .stamp))) (length (now (a .weight))) (length (now (a .found))) (length (now (a .bits))) (sym (r .ensures) ∙ none (r .result) (c .before .before .before .before .before .before .before .before .before .before .before .if1 .left))
+    roomy (now (a .centroids)) (now (a .volumes)) (a .radius) (now (a .planes)) (length (now (a .starts))) (length (now (a .cell))) (length (now (a .order))) (length (now (a .first))) (length (now (a .sorted))) (length (now (a .stamp))) (length (now (a .weight))) (length (now (a .found))) (length (now (a .bits))) (sym (r .ensures) ∙ none (r .result) (c .before .before .before .before .before .before .before .before .before .before .before .if1 .left))
 
 wipe-table-requires : tie.Need-wipe-table-requires
 wipe-table-requires c κs = search needs
@@ -111,7 +111,7 @@ returns-3 c = let a = c .before .before .before .before .before .before .before 
     let f = c .before .before .before .before .before .before .before .before .before .before .before .before .before .before .before .before .before .before .before .before .before .fill-front in
     let before = sym (r .ensures) ∙ none (r .result) (c .before .before .before .before .before .before .before .before .before .before .before .before .before .before .before .before .before .before .before .before .before .before .before .before .before .before .before .before .before .before .before .before .before .if1 .left) in
     builds (now (a .centroids)) (now (a .volumes)) (a .radius) (now (a .planes)) (record { starts = now (a .starts); near = now (a .near); coef = now (a .coef); cell = now (a .cell); order = now (a .order); first = now (a .first); sorted = now (a .sorted); stamp = now (a .stamp); weight = now (a .weight); found = now (a .found); bits = now (a .bits) }) (record { starts = f .last .1 .1 .1 .1 .0; near = f .last .1 .1 .1 .1 .1 .0; coef = f .last .1 .1 .1 .1 .1 .1 .0; cell = f .last .1 .1 .1 .1 .1 .1 .1 .0; order = f .last .1 .1 .1 .1 .1 .1 .1 .1 .0; first = f .last .1 .1 .1 .1 .1 .1 .1 .1 .1 .0; sorted = f .last .1 .1 .1 .1 .1 .1 .1 .1 .1 .1 .0; stamp = f .last .1 .1 .1 .1 .1 .1 .1 .1 .1 .1 .1 .0; weight = f .last .1 .1 .1 .1 .1 .1 .1 .1 .1 .1 .1 .1 .0; found = f .last .1 .1 .1 .1 .1 .1 .1 .1 .1 .1 .1 .1 .1 .0; bits = f .last .1 .1 .1 .1 .1 .1 .1 .1 .1 .1 .1 .1 .1 .1 .0 })
-    before (roomy (length (now (a .centroids))) (length (now (a .volumes))) (length (now (a .planes))) (length (now (a .starts))) (length (now (a .cell))) (length (now (a .order))) (length (now (a .first))) (length (now (a .sorted))) (length (now (a .stamp))) (length (now (a .weight))) (length (now (a .found))) (length (now (a .bits))) before .begun) (filled (now (a .centroids)) (a .radius) (now (a .planes)) (now (a .volumes)) (now (a .starts)) (now (a .near)) (now (a .coef)) (f .result) (f .last .1 .1 .1 .1 .0) (f .last .1 .1 .1 .1 .1 .0) (f .last .1 .1 .1 .1 .1 .1 .0) (c .if2 .left) (f .ensures .0)) (f .ensures .1)
+    before (roomy (now (a .centroids)) (now (a .volumes)) (a .radius) (now (a .planes)) (length (now (a .starts))) (length (now (a .cell))) (length (now (a .order))) (length (now (a .first))) (length (now (a .sorted))) (length (now (a .stamp))) (length (now (a .weight))) (length (now (a .found))) (length (now (a .bits))) before .begun) (filled (now (a .centroids)) (a .radius) (now (a .planes)) (now (a .volumes)) (now (a .starts)) (now (a .near)) (now (a .coef)) (f .result) (f .last .1 .1 .1 .1 .0) (f .last .1 .1 .1 .1 .1 .0) (f .last .1 .1 .1 .1 .1 .1 .0) (c .if2 .left) (f .ensures .0)) (f .ensures .1)
     (f .kept .1 .1 .1 .1 .1 .1 .1 .0) (f .kept .1 .1 .1 .1 .1 .1 .1 .1 .0) (f .kept .1 .1 .1 .1 .1 .1 .1 .1 .1 .0) (f .kept .1 .1 .1 .1 .1 .1 .1 .1 .1 .1 .0) (f .kept .1 .1 .1 .1 .1 .1 .1 .1 .1 .1 .1 .0) (f .kept .1 .1 .1 .1 .1 .1 .1 .1 .1 .1 .1 .1 .0) (f .kept .1 .1 .1 .1 .1 .1 .1 .1 .1 .1 .1 .1 .1 .0) (f .kept .1 .1 .1 .1 .1 .1 .1 .1 .1 .1 .1 .1 .1 .1 .0)
 
 pub build-spec : {M : Type 1} → statement M

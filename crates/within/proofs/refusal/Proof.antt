@@ -2,9 +2,10 @@
 use mathlib.Core.Path.{refl, sym, ap, _∙_}
 use mathlib.Core.Bool.{Bool}
 use borrow.Author.Needs.{needs}
-use lib.Dec.{ltb}
+use denote.Ref.{now}
 use Rattle.lists.specs.Lists.{choose}
 use Rattle.lists.proofs.Laws.{choose-false}
+use Rattle.filter.specs.Group.{planesRefusal}
 use Rattle.within.specs.Steps.{earlyBy}
 use Rattle.within.proofs.refusal.Statement.{statement}
 use Rattle.within.proofs.refusal.Tie as tie
@@ -27,14 +28,36 @@ too-short-requires c κs = search needs
 first-requires : tie.Need-first-requires
 first-requires c κs = search needs
 
+refusal-requires : tie.Need-refusal-requires
+refusal-requires c κs = search needs
+
+centroids-bad-requires : tie.Need-centroids-bad-requires
+centroids-bad-requires c κs = search needs
+
 first-requires-2 : tie.Need-first-requires-2
 first-requires-2 c κs = search needs
 
+radius-bad-requires : tie.Need-radius-bad-requires
+radius-bad-requires c κs = search needs
+
+first-requires-3 : tie.Need-first-requires-3
+first-requires-3 c κs = search needs
+
+volumes-bad-requires : tie.Need-volumes-bad-requires
+volumes-bad-requires c κs = search needs
+
+first-requires-4 : tie.Need-first-requires-4
+first-requires-4 c κs = search needs
+
 returns-4 : tie.Need-returns-4
 unfolding earlyBy
-returns-4 c =
-    c .first2 .ensures ∙ ap (choose (ltb 3 (c .before .before .before .before .before .before .args .planes)) 10) (c .before .first .ensures ∙ ap (λ (t : Bool). choose t 14 0) (c .before .before .too-short .ensures))
-    ∙ sym (choose-false _ _ _ (c .before .before .before .before .before .if1 .left) ∙ choose-false _ _ _ (c .before .before .before .before .if2 .left) ∙ choose-false _ _ _ (c .before .before .before .if3 .left))
+returns-4 c = let a = c .before .before .before .before .before .before .before .before .before .before .before .before .before .args in
+    let e14 = c .before .before .before .before .before .before .before .first .ensures ∙ ap (λ (t : Bool). choose t 14 0) (c .before .before .before .before .before .before .before .before .too-short .ensures) in
+    let e10 = c .before .before .before .before .before .before .refusal .ensures ∙ ap (planesRefusal (now (a .planes))) e14 in
+    let e9 = c .before .before .before .before .first2 .ensures ∙ (λ i. choose (c .before .before .before .before .before .centroids-bad .ensures i) 9 (e10 i)) in
+    let e8 = c .before .before .first3 .ensures ∙ (λ i. choose (c .before .before .before .radius-bad .ensures i) 8 (e9 i)) in
+    c .first4 .ensures ∙ (λ i. choose (c .before .volumes-bad .ensures i) 4 (e8 i))
+    ∙ sym (choose-false _ _ _ (c .before .before .before .before .before .before .before .before .before .before .before .if1 .left) ∙ choose-false _ _ _ (c .before .before .before .before .before .before .before .before .before .before .if2 .left) ∙ choose-false _ _ _ (c .before .before .before .before .before .before .before .before .before .if3 .left))
 
 pub refusal-spec : {M : Type 1} → statement M
 refusal-spec =
@@ -45,5 +68,11 @@ refusal-spec =
     returns-3
     too-short-requires
     first-requires
+    refusal-requires
+    centroids-bad-requires
     first-requires-2
+    radius-bad-requires
+    first-requires-3
+    volumes-bad-requires
+    first-requires-4
     returns-4)

@@ -1,7 +1,7 @@
--- `filter::group::beyond` meets its contract by the call's promise. Assumes nothing.
+-- `filter::domain::beyond` meets its contract by the call's promise. Assumes nothing.
 use borrow.Author.Needs.{needs}
-use Rattle.filter.proofs.group.beyond.Statement.{statement}
-use Rattle.filter.proofs.group.beyond.Tie as tie
+use Rattle.filter.proofs.domain.beyond.Statement.{statement}
+use Rattle.filter.proofs.domain.beyond.Tie as tie
 
 abs-requires : tie.Need-abs-requires
 abs-requires c κs = search needs

@@ -1,4 +1,4 @@
--- `opening::volumes_bad` meets its contract: the places passed are looked at. Assumes nothing.
+-- `filter::domain::volumes_bad` meets its contract: the places passed are looked at. Assumes nothing.
 use borrow.Author.Needs.{needs}
 use mathlib.Core.Path.{_≡_, sym, _∙_}
 use mathlib.Core.Bool.{_||_}
@@ -8,9 +8,9 @@ use lib.ListN.{length, getD}
 use lib.Ieee.{nan}
 use Rattle.lists.specs.Lists.{anyTo}
 use Rattle.lists.proofs.Laws.{any-none, any-step}
-use Rattle.plain.specs.Opening.{volumeBad}
-use Rattle.opening.proofs.volumes_bad.Statement.{statement}
-use Rattle.opening.proofs.volumes_bad.Tie as tie
+use Rattle.filter.specs.Domain.{volumeBad}
+use Rattle.filter.proofs.domain.volumes_bad.Statement.{statement}
+use Rattle.filter.proofs.domain.volumes_bad.Tie as tie
 
 abbrev Inv-loop : tie.InvT-loop
 Inv-loop volumes t₀ i₀ t i = (i ≤ length volumes) × (t ≡ anyTo (λ k. volumeBad (getD volumes k nan)) i)

@@ -1,4 +1,4 @@
--- `opening::centroids_bad` meets its contract: the places passed are looked at. Assumes nothing.
+-- `filter::domain::centroids_bad` meets its contract: the places passed are looked at. Assumes nothing.
 use borrow.Author.Needs.{needs}
 use mathlib.Core.Path.{_≡_, sym, _∙_}
 use mathlib.Core.Bool.{_||_}
@@ -8,9 +8,9 @@ use lib.ListN.{length, getD}
 use mathlib.Core.List.{[]}
 use Rattle.lists.specs.Lists.{anyTo}
 use Rattle.lists.proofs.Laws.{any-none, any-step}
-use Rattle.plain.specs.Opening.{centroidBad}
-use Rattle.opening.proofs.centroids_bad.Statement.{statement}
-use Rattle.opening.proofs.centroids_bad.Tie as tie
+use Rattle.filter.specs.Domain.{centroidBad}
+use Rattle.filter.proofs.domain.centroids_bad.Statement.{statement}
+use Rattle.filter.proofs.domain.centroids_bad.Tie as tie
 
 abbrev Inv-loop : tie.InvT-loop
 Inv-loop centroids t₀ i₀ t i = (i ≤ length centroids) × (t ≡ anyTo (λ k. centroidBad (getD centroids k [])) i)
