@@ -13,7 +13,7 @@ pub struct Mesh<'a> {
 }
 
 /// Sets of surfaces that stay solid to a depth: set s has `surfaces[starts[s]]` up to `surfaces[starts[s + 1]]`, and marks to
-/// `depths[s]`, or by its nodes only where that is not finite or not above 0.
+/// `depths[s]`, or by its nodes only where that is not finite or not above 0. A set that is not empty and ends past `surfaces` is refused with 14.
 #[derive(Clone, Copy, Debug, Default)]
 pub struct Kept<'a> {
     pub starts: &'a [u32],

@@ -34,11 +34,17 @@ fn what_stays_solid() {
     let kept = marks;
     assert_eq!(region::passive(mesh, &[], &[], too_deep, &mut marks, &mut work), Err(Refused(8)));
     assert_eq!(region::passive(mesh, &[], &[], all, &mut marks[..5], &mut work), Err(Refused(14)));
+    let cut = Kept { starts: &[0, 2], ..all };
+    assert_eq!(region::passive(mesh, &[], &[], cut, &mut marks, &mut work), Err(Refused(14)));
     let far = Mesh { tris: &[[27, 0, 0, 0, 0, 0]], ..mesh };
     assert_eq!(region::passive(far, &[], &[], all, &mut marks, &mut work), Err(Refused(21)));
     assert_eq!(marks, kept);
     assert_eq!(region::passive(mesh, &[], &[], all, &mut marks, &mut work), Ok(()));
     assert_eq!(marks, [true; 7]);
+    // An empty set needs no place, wherever it stands.
+    let empty = Kept { starts: &[9, 9], ..all };
+    assert_eq!(region::passive(mesh, &[], &[], empty, &mut marks, &mut work), Ok(()));
+    assert_eq!(marks, [false, false, false, false, false, false, true]);
 }
 
 #[test]

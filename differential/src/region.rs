@@ -127,11 +127,16 @@ impl Passive {
         [n, self.nodes.len(), n, n, n, n, n + 1]
     }
 
+    /// Whether a set that is not empty ends past the end of `kept`.
+    fn cut(&self) -> bool {
+        self.starts.windows(2).take(self.depths.len()).any(|w| w[0] < w[1] && w[1] as usize > self.kept.len())
+    }
+
     /// The Rust's sets. A not-a-number with a sign is a depth that is given, without one a depth that is absent.
     fn sets(&self) -> Vec<(Vec<u32>, Option<f64>)> {
         let set = |s: usize| {
             let (from, to) = (self.starts[s] as usize, self.starts[s + 1] as usize);
-            self.kept.iter().take(to).skip(from).copied().collect()
+            if from < to { self.kept[from..to].to_vec() } else { Vec::new() }
         };
         let depth = |d: f64| (!d.is_nan() || d.is_sign_negative()).then_some(d);
         self.depths.iter().enumerate().map(|(s, d)| (set(s), depth(*d))).collect()
@@ -281,9 +286,10 @@ impl Passive {
             self.depths[s] = g.pick(&[0.001f64.next_down(), 1e6f64.next_up(), 5e-324, f64::MAX, 0.001, 1e6]);
         }
         if g.below(often) == 0 {
-            match g.below(9) {
+            match g.below(10) {
                 7 => drop(self.surfaces.pop()),
                 8 => drop(self.starts.pop()),
+                9 => drop(self.kept.pop()),
                 k => self.lent[k] = self.lent[k].saturating_sub(1 + g.below(3)),
             }
         }
@@ -355,7 +361,7 @@ fn worked(k: u32, p: &Passive, w: &PassiveWork) -> Worked {
 fn passive_theirs(p: Passive) -> Marked {
     let (mut marks, work) = (p.marks(), p.work());
     let bad = |d: &f64| d.is_finite() && *d > 0.0 && !(0.001..=1e6).contains(d);
-    let few = p.surfaces.len() < p.tris.len() || p.starts.len() <= p.depths.len() || short(p.lent, p.needs());
+    let few = p.surfaces.len() < p.tris.len() || p.starts.len() <= p.depths.len() || p.cut() || short(p.lent, p.needs());
     let k = first([refused(p.tets.len(), &p.nodes, &p.tris), if p.depths.iter().any(bad) { 8 } else { 0 }, if few { 14 } else { 0 }]);
     if k == 0 {
         let problem = Problem {

@@ -10,8 +10,8 @@ use off_centre::Balance;
 
 // The elements that must stay solid, and 0 or the refusal: 3, 21, 9, 8 or 14, with all lists as before. A triangle has its three corners' numbers and
 // then those of the middles of its sides, and its surface is in surfaces. held and loaded are numbers of nodes. Set s of kept surfaces is kept from
-// starts[s] up to starts[s + 1]; its depth is none where it is not finite or not above 0. keep and the lists after it are for the call's own use: keep
-// needs a place a node, first one more than an element, the others one an element.
+// starts[s] up to starts[s + 1], and kept needs the places up to there where the set is not empty; its depth is none where it is not finite or not above
+// 0. keep and the lists after it are for the call's own use: keep needs a place a node, first one more than an element, the others one an element.
 #[no_mangle]
 pub extern "C" fn sokdrib_passive(
     nodes: &[[f64; 3]],

@@ -1,6 +1,6 @@
 -- A call that is not refused has few elements and lists that are long enough; and what either outcome leaves. Assumes nothing.
 use mathlib.Core.Path.{_≡_, refl, sym, ap, _∙_}
-use mathlib.Core.Bool.{Bool, true, false}
+use mathlib.Core.Bool.{Bool, true, false, _||_}
 use mathlib.Core.List.{List}
 use Prim.Native.Nat.{ℕ, _+_, _≤_, _<_}
 use native.Mathlib.Omega.{arith}
@@ -10,7 +10,7 @@ use borrow.Author.Tests.{ltb-false, ltb-true, lt-leb, le-leb, ne-eqb}
 use Rattle.lists.specs.Lists.{overwrite, choose}
 use Rattle.lists.proofs.Laws.{passes-on, neither, choose-true, choose-false}
 use Rattle.boundary.specs.Boundary as Boundary
-use Rattle.passive.specs.Passive.{Problem, Lent, setsIn, passiveAt, depthsOutside, tooShort, refusalOf, Worked, Marked}
+use Rattle.passive.specs.Passive.{Problem, Lent, setsIn, passiveAt, depthsOutside, tooShort, keptShort, refusalOf, Worked, Marked}
 use Rattle.passive.specs.Steps.{Roomy, Past}
 
 -- at most, as below one more
@@ -27,7 +27,7 @@ module _ (q : Problem) (l : Lent) where
 
   -- the number that the code finds
   abbrev found : Bool → ℕ
-  found s = Boundary.refusalOf (length (q .tets)) (q .nodes) (q .tris) (choose (depthsOutside (q .depths)) 8 (choose s 14 0))
+  found s = Boundary.refusalOf (length (q .tets)) (q .nodes) (q .tris) (choose (depthsOutside (q .depths)) 8 (choose (s || keptShort (q .starts) (length (q .kept)) (setsIn q)) 14 0))
 
   pub refusal-is : (s : Bool) (r : ℕ) → s ≡ short → r ≡ found s → r ≡ refusalOf q l
   unfolding refusalOf
@@ -63,7 +63,7 @@ module _ (q : Problem) (l : Lent) where
   roomy e =
       let many = passes-on _ 3 _ (omega arith) e in
       let rest = passes-on _ 9 _ (omega arith) (passes-on _ 21 _ (omega arith) (many .1) .1) .1 in
-      let s = long-enough (passes-on short 14 0 (omega arith) (passes-on _ 8 _ (omega arith) rest .1) .0) in
+      let s = long-enough (neither short (keptShort (q .starts) (length (q .kept)) (setsIn q)) (passes-on _ 14 0 (omega arith) (passes-on _ 8 _ (omega arith) rest .1) .0) .0) in
       let few = ltb-false 65535 (length (q .tets)) (neither (ltb 65535 (length (q .tets))) _ (neither _ (ltb 1048576 (length (q .nodes))) (many .0) .0) .0) in
       record {
         few = omega (arith, few);

@@ -55,17 +55,25 @@ pub record Lent : Type 0 where
   pub place : List ℕ
   pub first : List ℕ
 
--- 14: "a lent list shorter than needed": one place an element, one more for starts, one a node for `keep`, a triangle for `surfaces`
+-- 14: "a lent list shorter than needed": one place an element, one more for `first`, one a node for `keep`, a triangle for `surfaces`, a set and one more for `starts`
 unfoldable pub tooShort : ℕ → ℕ → ℕ → ℕ → ℕ → ℕ → ℕ → ℕ → ℕ → ℕ → ℕ → ℕ → ℕ → Bool
 tooShort nodes tets tris sets surfaces starts marks keep middles cells order place first =
     ltb surfaces tris || (ltb starts (sets + 1) || (ltb marks tets || (ltb keep nodes || (ltb middles tets || (ltb cells tets || (ltb order tets || (ltb place tets || ltb first (tets + 1))))))))
+
+-- 14 of `kept`: a set that is not empty needs the places up to its end, of which there are so many
+abbrev pub setShort : List ℕ → ℕ → ℕ → Bool
+setShort starts kept s = ltb (getD starts s 0) (getD starts (s + 1) 0) && ltb kept (getD starts (s + 1) 0)
+
+-- one of so many sets does
+unfoldable pub keptShort : List ℕ → ℕ → ℕ → Bool
+keptShort starts kept sets = anyTo (setShort starts kept) sets
 
 -- 01: "Mesh calls check 3, 21, 9, 11, 8, 14": the first three by the boundary; there are no planes here. 0 where nothing is refused
 unfoldable pub refusalOf : Problem → Lent → ℕ
 refusalOf q l =
     Boundary.refusalOf (length (q .tets)) (q .nodes) (q .tris)
     (choose (depthsOutside (q .depths)) 8
-    (choose (tooShort (length (q .nodes)) (length (q .tets)) (length (q .tris)) (setsIn q) (length (q .surfaces)) (length (q .starts)) (length (l .marks)) (length (l .keep)) (length (l .middles)) (length (l .cells)) (length (l .order)) (length (l .place)) (length (l .first))) 14 0))
+    (choose (tooShort (length (q .nodes)) (length (q .tets)) (length (q .tris)) (setsIn q) (length (q .surfaces)) (length (q .starts)) (length (l .marks)) (length (l .keep)) (length (l .middles)) (length (l .cells)) (length (l .order)) (length (l .place)) (length (l .first)) || keptShort (q .starts) (length (q .kept)) (setsIn q)) 14 0))
 
 -- what is left in a working list of which n places are needed: on a refusal the list as it was lent, else past those places; what stands in them is free
 pub record Worked {A : Type 0} (r n : ℕ) (l l′ : List A) : Type 0 where

@@ -43,7 +43,7 @@ pub fn passive(
         place.len(),
         first.len(),
     );
-    let r = crate::refuse::refusal(nodes, tets.len(), tris, depths, short);
+    let r = crate::refuse::refusal(nodes, tets.len(), tris, starts, kept.len(), depths, short);
     if r > 0 {
         return r;
     }
