@@ -284,7 +284,8 @@ void sokdrib_back(
     size_t out_len
 );
 
-/* The volume of a tetrahedron, curved as its mid-side nodes make it. A node that is not there is the origin. */
+/* The volume of a tetrahedron, curved as its mid-side nodes make it. A node that is not there is the origin. This call and the three after it are
+ * leaves: they work on nodes of any count and any bits, and refuse nothing; sokdrib_design refuses what is outside the domain. */
 double sokdrib_volume(const double (*nodes)[3], size_t nodes_len, const uint32_t tet[10]);
 
 /* The volume of the straight tetrahedron between the corners. */

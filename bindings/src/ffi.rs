@@ -645,7 +645,8 @@ pub fn sokdrib_back(starts: &[u32], near: &[u32], coef: &[f64], g: &[f64], out: 
     ) }
 }
 
-/// The volume of a tetrahedron, curved as its mid-side nodes make it. A node that is not there is the origin.
+/// The volume of a tetrahedron, curved as its mid-side nodes make it. A node that is not there is the origin. This call and the three after it are
+/// leaves: they work on nodes of any count and any bits, and refuse nothing; sokdrib_design refuses what is outside the domain.
 pub fn sokdrib_volume(nodes: &[[f64; 3]], tet: &[u32; 10]) -> f64 {
     // SAFETY: see above.
     unsafe { library::sokdrib_volume(nodes.as_ptr(), nodes.len(), tet) }

@@ -1,5 +1,8 @@
 //! Meshes of ten-node tetrahedra: four corners, then the middles of the sides 0-1, 1-2, 2-0, 0-3, 2-3 and 1-3. A node that is not
 //! there is the origin.
+//!
+//! [`volume`], [`corner_volume`], [`centroid`] and [`extent`] are leaves: they work on nodes of any count and any bits, and refuse nothing.
+//! [`design`] and [`block`] refuse what is outside the domain.
 use crate::geom::Vec3;
 use crate::{Refused, ffi, refusal};
 

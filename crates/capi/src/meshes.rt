@@ -6,7 +6,8 @@ ghost use Rattle.block.specs.Block as Block;
 use block::Made;
 use geom::Vec3;
 
-// The volume of a tetrahedron, curved as its mid-side nodes make it. A node that is not there is the origin.
+// The volume of a tetrahedron, curved as its mid-side nodes make it. A node that is not there is the origin. This call and the three after it are
+// leaves: they work on nodes of any count and any bits, and refuse nothing; sokdrib_design refuses what is outside the domain.
 #[no_mangle]
 pub extern "C" fn sokdrib_volume(nodes: &[[f64; 3]], tet: &[u32; 10]) -> f64
     ensures { λ r. ⌜ r ≡ Mesh.volumeOf (now (nodes .entry)) (now (tet .entry)) ⌝ }
