@@ -4,10 +4,7 @@ use mathlib.Core.Bool.{Bool, true, false}
 use Prim.Native.Nat.{ℕ, zero, suc, _+_, _-_, _≤_}
 use native.Mathlib.Omega.{arith}
 use Rattle.rates.specs.Rates.{Given, Stand, first, raises, raised, halves, halved, whileTo, raisedAll, updated}
-
-pub record Between (least most : ℕ) (s : Stand) : Type 0 where
-  pub from : least ≤ s .passes
-  pub to : s .passes ≤ most
+use Rattle.rates.specs.Tried.{Between}
 
 -- f counts one, so n turns count n at most
 counted : (p : Stand → Bool) (f : Stand → Stand) → ((s : Stand) → f s .passes ≡ s .passes + 1) → (n : ℕ) (s : Stand) → Between (s .passes) (s .passes + n) (whileTo p f n s)

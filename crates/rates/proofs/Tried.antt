@@ -9,7 +9,6 @@ use lib.Ieee.{Float, binary64, mul}
 use Rattle.oc.specs.Record.{two64}
 use Rattle.rates.specs.Rates.{Given, Stand, trial, reckoned, firstRate, first, raises, raised, middle, halves, halved, whileTo, raisedAll, updated}
 use Rattle.rates.specs.Tried.{turnsTo, tried, reckonings}
-use Rattle.rates.proofs.Passes.{Between, passes-at-most}
 
 abbrev Counts : ℕ → ℕ → Stand → Type 0
 Counts before more s = s .passes ≡ before + more

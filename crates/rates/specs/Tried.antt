@@ -1,7 +1,7 @@
 -- The rates that an update tries and the volumes that it evaluates, one a rate, with no count kept. Definitions only.
 use mathlib.Core.Bool.{Bool, true, false}
 use mathlib.Core.List.{List, [], _∷_, _++_, map}
-use Prim.Native.Nat.{ℕ, zero, suc, _-_}
+use Prim.Native.Nat.{ℕ, zero, suc, _-_, _≤_}
 use lib.Ieee.{Float, binary64, mul}
 use Rattle.oc.specs.Record.{two64}
 use Rattle.rates.specs.Rates.{Given, Stand, trial, reckoned, firstRate, first, raises, raised, middle, halves, halved, most, raisedAll}
@@ -19,3 +19,8 @@ module _ (g : Given) where
   -- "each kept volume that the plain run's update evaluates is one reckoning made"
   unfoldable pub reckonings : List Float
   reckonings = map (λ (rate : Float). reckoned g (trial g rate)) tried
+
+-- "at most 200 reckonings": the law `passes-at-most` says of an update that they are from 1 to 200
+pub record Between (least most : ℕ) (s : Stand) : Type 0 where
+  pub from : least ≤ s .passes
+  pub to : s .passes ≤ most

@@ -13,7 +13,7 @@ use Rattle.plain.specs.Calls.{Lists, Result, World, Call, Asked, sizesOf, answe
 use Rattle.plain.proofs.Whole.{whole}
 use Rattle.job.specs.Job.{answerTo, asks, answersFrom, jobOf}
 use Rattle.job.proofs.Answers.{answers-over}
-use Rattle.shown.specs.Shown.{taken, jobCalls, start, lastOut}
+use Rattle.shown.specs.Shown.{taken, jobCalls, start, lastOut, Plainly}
 use Rattle.shown.proofs.Grows.{answer-grows, open-grows, lent-whole, back-whole}
 
 abbrev world : Result → World
@@ -68,11 +68,6 @@ last-by weights n work k d r (Round m) e = last-from weights n work k r
 last-by weights n work k d r (Stop why) e = last-from weights n work k r
 last-by weights n work k d r (Refused m) e =
     ap (λ (c : List Call). lastOut (outOf r) (callsShut (world r) c)) (none-taken weights n work k r (ap asks e)) ∙ ap outOf (answers-over weights n work k r (ap asks e))
-
--- THE JOB IS A PLAIN RUN: what its calls show is what the plain run shows of the same answers, and what is shown last is how the job ended
-pub record Plainly (weights : List Float) (n : ℕ) (openWork work : List ℕ) (g : Asked) (l : Lists) : Type 0 where
-  pub same : callsRun (start l) (sizesOf openWork l) g (jobCalls weights n openWork work g l) ≡ plainRun (openingOf g openWork l) (map (fed l) (jobCalls weights n openWork work g l))
-  pub ended : (d : Out) → lastOut d (plainRun (openingOf g openWork l) (map (fed l) (jobCalls weights n openWork work g l))) ≡ outOf (jobOf weights n openWork work g l)
 
 pub plainly : (weights : List Float) (n : ℕ) (openWork work : List ℕ) (g : Asked) (l : Lists) → Plainly weights n openWork work g l
 unfolding jobOf callsRun fresh
