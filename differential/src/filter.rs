@@ -138,7 +138,7 @@ impl Build {
     fn strain(&mut self, g: &mut Gen) {
         let (least, most) = (g.pick(&[0.0, -1.0, f64::NAN]), g.pick(&[f64::INFINITY, f64::NEG_INFINITY, f64::NAN]));
         let coordinate = |g: &mut Gen| {
-            let edge = g.pick(&[1e6, -1e6]);
+            let edge: f64 = g.pick(&[1e6, -1e6]);
             g.pick(&[edge, edge.next_up(), edge.next_down(), most])
         };
         let (n, planes) = (self.volumes.len(), self.planes.len());
