@@ -1,6 +1,6 @@
 #!/usr/bin/env python3
 """Holds docs/CLAIMS.md to the sources: each edit that it names is there, and each edit that is there is named; each contract, theorem, definition and
-file that it names is there.
+file that it names is there. An edit's label is that of no other, and its first line says which sentence it breaks.
 
     tools/claims.py
 """
@@ -9,7 +9,8 @@ import re
 import sys
 
 root = pathlib.Path(__file__).resolve().parent.parent
-edits = {p.stem for p in root.glob("crates/*/must-fail/*.edit")}
+paths = sorted(root.glob("crates/*/must-fail/*.edit"))
+edits = {p.stem for p in paths}
 crates = [p for p in root.glob("crates/*/") if p.is_dir()]
 sources = [p for c in crates for d in ("src", "specs", "proofs") for p in (c / d).rglob("*") if p.suffix in (".rt", ".antt")]
 words = {c.name for c in crates}
@@ -37,6 +38,9 @@ for line in (root / "docs/CLAIMS.md").read_text(encoding="utf-8").splitlines():
     faults += [f"names {f}, and there is no such file" for f in files if tuple(f.split("/")) not in ends]
 faults += [f"names {label}, and there is no such edit" for label in sorted(named - edits)]
 faults += [f"does not name the edit {label}" for label in sorted(edits - named)]
+faults = ["docs/CLAIMS.md " + f for f in faults]
+faults += [f"{p.relative_to(root)} has the label of {q.relative_to(root)}" for p in paths for q in paths if q < p and q.stem == p.stem]
+faults += [f"{p.relative_to(root)} does not begin with the sentence that it breaks" for p in paths if not p.read_text(encoding="utf-8").startswith("# ")]
 for fault in faults:
-    print("docs/CLAIMS.md", fault)
+    print(fault)
 sys.exit(1 if faults else 0)
