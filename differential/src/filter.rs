@@ -1,7 +1,7 @@
 //! The filter: its table's build, and the two products with it.
 use crate::compare::Run;
 use crate::fields;
-use crate::inputs::Gen;
+use crate::inputs::{Gen, cube_edge};
 use crate::lists::{Lists, elements, number, table};
 use crate::plain::{mirrors, shape_refused, volume_outside};
 use sokdrib::filter::{self, BITS, Into, Work};
@@ -90,23 +90,41 @@ fn needs(n: usize) -> [usize; 11] {
     [n + 1, 0, 0, n, n, n + 1, n, n, n, n, BITS]
 }
 
+/// Middles, a radius and planes.
+type Part = (Vec<[f64; 3]>, f64, Vec<[f64; 6]>);
+
+/// Elements anywhere, most with some tens of neighbours at the most.
+fn spread(g: &mut Gen) -> Part {
+    let n = match g.below(64) {
+        0 => 500 + g.below(2000),
+        1..8 => 40 + g.below(200),
+        _ => 1 + g.below(30),
+    };
+    let (centroids, spacing) = middles(g, n);
+    let planes = planes(g, &centroids);
+    let radius = match g.below(16) {
+        0 => 0.001,
+        1 if n < 100 => 1e6,
+        2 => spacing,
+        3 => spacing * 2f64.sqrt(),
+        4 => spacing * 1e-2,
+        _ => spacing * (0.3 + 2.2 * g.unit()),
+    };
+    (centroids, g.nudged(radius), planes)
+}
+
+/// Elements at an edge of the cubes.
+fn at_an_edge(g: &mut Gen) -> Part {
+    let n = 2 + g.below(16);
+    let (middles, radius, plane) = cube_edge(g, n);
+    let planes = if g.below(4) == 0 { vec![plane] } else { planes(g, &middles) };
+    (middles, radius, planes)
+}
+
 impl Build {
     fn random(g: &mut Gen) -> Build {
-        let n = match g.below(64) {
-            0 => 500 + g.below(2000),
-            1..8 => 40 + g.below(200),
-            _ => 1 + g.below(30),
-        };
-        let (centroids, spacing) = middles(g, n);
-        let planes = planes(g, &centroids);
-        let radius = match g.below(16) {
-            0 => 0.001,
-            1 if n < 100 => 1e6,
-            2 => spacing,
-            3 => spacing * 2f64.sqrt(),
-            4 => spacing * 1e-2,
-            _ => spacing * (0.3 + 2.2 * g.unit()),
-        };
+        let (centroids, radius, planes) = if g.below(8) == 0 { at_an_edge(g) } else { spread(g) };
+        let n = centroids.len();
         let even = g.below(4) > 0;
         let tiny = g.below(8) == 0;
         let volume = |g: &mut Gen| match g.below(8) {
@@ -117,7 +135,7 @@ impl Build {
             _ => 0.1 + g.unit(),
         };
         let volumes: Vec<f64> = (0..n).map(|_| volume(g)).collect();
-        let mut b = Build { lent: [0; 11], centroids, volumes, radius: g.nudged(radius), planes };
+        let mut b = Build { lent: [0; 11], centroids, volumes, radius, planes };
         b.lend();
         match g.below(32) {
             // One place short of what it needs, or of one row's end.

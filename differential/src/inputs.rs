@@ -251,3 +251,102 @@ pub fn small_triangles() -> Vec<[Point; 4]> {
     }
     all
 }
+
+/// `n` middles at an edge of the filter's cubes, so many radii from the corner of their box as a power of two, and about one radius past
+/// it; the radius; and a plane half-way between the two. At the edge `v - lo` and its quotient round up by more than they round down a cube
+/// before, so that the cubes of two middles that are nearer than the radius can lie two apart.
+pub fn cube_edge(g: &mut Gen, n: usize) -> (Vec<Point>, f64, [f64; 6]) {
+    let radius = match g.below(3) {
+        0 => 2f64.powi(g.below(16) as i32 - 9),
+        1 => 0.001 + g.unit(),
+        _ => 0.5 + 30.0 * g.unit(),
+    };
+    // A power of two that 5e5 radii are more than.
+    let most = ((5e5 / radius).to_bits() >> 52) as usize - 1023;
+    let span = radius * 2f64.powi(1 + g.below(most) as i32);
+    let step = (span.next_up() - span) / 8.0;
+    let lo: Point = std::array::from_fn(|_| g.pick(&[-span, -span, 0.0, -0.5 * span]));
+    let along = g.below(3);
+    let mut middles = vec![lo];
+    while middles.len() < n {
+        let past = g.pick(&[0.0, radius]) - g.below(12) as f64 * step;
+        middles.push(std::array::from_fn(|k| lo[k] + span + if k == along || g.below(16) == 0 { past } else { 0.0 }));
+    }
+    let mut plane = [lo[0] + span, lo[1] + span, lo[2] + span, 0.0, 0.0, 0.0];
+    plane[along] += 0.5 * radius;
+    plane[3 + along] = 1.0;
+    (middles, radius, plane)
+}
+
+/// Triangles at an edge of the cells that `passive` files them by, middles about one depth farther, or the other way round, and the depth.
+/// What they are off the edge is so little that their distance rounds to the depth, and yet they can lie two cells apart, across the cell
+/// between.
+pub fn cell_edge(g: &mut Gen, triangles: usize, middles: usize) -> (Vec<[Point; 3]>, Vec<Point>, f64) {
+    let depth = match g.below(3) {
+        0 => 2f64.powi(g.below(16) as i32 - 9),
+        1 => 0.001 + g.unit(),
+        _ => 0.5 + 100.0 * g.unit(),
+    };
+    let along = g.below(3);
+    let edge = (g.below(4) as f64 - 2.0) * depth;
+    let (from, to) = g.pick(&[(edge, edge + depth), (edge + depth, edge)]);
+    let away = if from < to { -1.0 } else { 1.0 };
+    // Where it is longer than the depth, the cells are as wide as the side.
+    let side = depth * g.pick(&[0.25, 0.5, 0.7, 0.7, 1.5, 4.0]);
+    let near = |g: &mut Gen, v: f64| match g.below(4) {
+        0 => v,
+        1 => v - g.pick(&[5e-324, 1e-300, 1e-20, 1e-17]) * depth,
+        2 => v.next_down(),
+        _ => v.next_up(),
+    };
+    let point = |v: f64, a: f64, b: f64| {
+        let mut p = [0.0; 3];
+        (p[along], p[(along + 1) % 3], p[(along + 2) % 3]) = (v, a, b);
+        p
+    };
+    let corners = (0..triangles).map(|_| {
+        let steep = g.below(4) == 0;
+        let [a, b, c] = std::array::from_fn(|k| if steep && k == 0 { from + away * side * g.unit() } else { near(g, from) });
+        let share = side * g.unit();
+        [point(a, 0.0, 0.0), point(b, side, share), point(c, share, side)]
+    });
+    let corners = corners.collect();
+    let middles = (0..middles).map(|_| {
+        let beside = if g.below(2) == 0 { [0.0; 2] } else { [side * g.unit(), side * g.unit()] };
+        let at = near(g, to);
+        point(at, beside[0], beside[1])
+    });
+    (corners, middles.collect(), depth)
+}
+
+/// Needles with one tip: triangles of two nodes, a million times as long as wide or more; a triangle of one node at the image of each one's
+/// other end, so that this is no farther from the boundary; and one of a node beside the tip. In the plane that comes with them this node's
+/// image is the farthest. All boxes with needles have the same gap to it, yet what rounds along a needle puts its nearest point some steps
+/// before the tip or behind it: the distance then hangs on which box is looked into first, and on whether one is at a gap that is just
+/// reached.
+pub fn needles(g: &mut Gen, count: usize) -> (Vec<Point>, Vec<[u32; 3]>, [f64; 6]) {
+    let length = g.pick(&[1e6, 1e6, 1e3, 1.0]);
+    let width = length * g.pick(&[1e-9, 1e-10, 1e-11, 1e-12, 1e-13, 1e-14]);
+    let [long, wide] = g.pick(&[[0, 1], [1, 2], [2, 0], [1, 0], [2, 1], [0, 2]]);
+    let signs = g.pick(&[[1.0, 1.0], [1.0, -1.0], [-1.0, 1.0], [-1.0, -1.0]]);
+    let at = |y: f64, x: f64| {
+        let mut p = [0.0; 3];
+        (p[long], p[wide]) = (signs[0] * y, signs[1] * x);
+        p
+    };
+    let tip = 0.1 * width * g.signed();
+    let far = width * (0.02 + 0.2 * g.unit());
+    let back = far * (0.2 + 0.6 * g.unit());
+    let middle = tip + (far - back) / 2.0;
+    let mut plane = [0.0; 6];
+    (plane[wide], plane[3 + wide]) = (signs[1] * middle, g.pick(&[1.0, -1.0]));
+    let mut nodes = vec![at(0.0, tip), at(-4.0 * width * far / length, tip - back)];
+    let mut triangles = vec![[1; 3]];
+    for _ in 0..count {
+        let (y, x) = (-length * (0.6 + 0.4 * g.unit()), tip - width * (0.3 + 0.7 * g.unit()));
+        let n = nodes.len() as u32;
+        nodes.extend([at(y, x), at(y, 2.0 * middle - x)]);
+        triangles.extend([g.pick(&[[n, 0, 0], [n, 0, n], [0, n, n], [0, n, 0], [n, n, 0]]), [n + 1; 3]]);
+    }
+    (nodes, triangles, plane)
+}

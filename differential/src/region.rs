@@ -4,7 +4,7 @@ use std::collections::BTreeMap;
 use crate::compare::Run;
 use crate::fields;
 use crate::filter::left;
-use crate::inputs::Gen;
+use crate::inputs::{Gen, cell_edge, needles};
 use crate::lists::number;
 use crate::mesh::{outside, stored, tet, vector};
 use sokdrib::geom;
@@ -208,6 +208,20 @@ impl Passive {
         }
     }
 
+    /// Triangles and middles at the edges of cells, and the set of all triangles.
+    fn at_an_edge(g: &mut Gen) -> Passive {
+        let (triangles, middles) = (1 + g.below(3), 1 + g.below(6));
+        let (corners, middles, depth) = cell_edge(g, triangles, middles);
+        let mut p = Passive::none();
+        p.nodes = corners.iter().flatten().chain(&middles).copied().collect();
+        p.tris = (0..triangles as u32).map(|t| [0, 1, 2, 0, 1, 2].map(|k| 3 * t + k)).collect();
+        p.surfaces = vec![1; triangles];
+        // All corners of a tetrahedron are one node, so that its middle is there.
+        p.tets = (0..middles.len()).map(|e| [(3 * triangles + e) as u32; 10]).collect();
+        p.keep(&[1], depth);
+        p
+    }
+
     /// A set of surfaces more, to a depth.
     fn keep(&mut self, surfaces: &[u32], depth: f64) {
         self.kept.extend(surfaces);
@@ -254,6 +268,7 @@ impl Passive {
                 let cells = std::array::from_fn(|_| 1 + g.below(3));
                 Passive::block(g, cells)
             }
+            24..32 => Passive::at_an_edge(g),
             _ => Passive::soup(g),
         };
         let n = p.nodes.len();
@@ -262,7 +277,7 @@ impl Passive {
             // The last of these numbers are no nodes.
             *list = (0..g.below(most)).map(|_| g.below(n + 3)).map(|k| if k == n + 2 { u32::MAX } else { k as u32 }).collect();
         }
-        for _ in 0..g.pick(&[0, 1, 1, 1, 2, 3]) {
+        for _ in p.depths.len()..g.pick(&[0, 1, 1, 1, 2, 3]) {
             let surfaces: Vec<u32> = (0..g.pick(&[0, 1, 1, 1, 2, 5])).map(|_| g.below(7) as u32).collect();
             let depth = p.depth(g, &surfaces);
             p.keep(&surfaces, depth);
@@ -504,10 +519,17 @@ impl Soup {
         s
     }
 
+    fn needles(g: &mut Gen) -> Soup {
+        let count = 5 + g.below(4);
+        let (nodes, corners, plane) = needles(g, count);
+        Soup { nodes, tris: corners.iter().map(|[a, b, c]| [*a, *b, *c, *a, *b, *c]).collect(), plane, lent: [0; 8] }
+    }
+
     fn random(g: &mut Gen) -> Soup {
         let mut s = match g.below(8) {
             0 => Soup::block(g),
             1 | 2 => Soup::twin(g),
+            3 => Soup::needles(g),
             _ => {
                 let mut s = Soup::any(g);
                 let at = s.nodes[g.below(s.nodes.len())];

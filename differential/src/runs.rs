@@ -9,17 +9,21 @@ use crate::inputs::Gen;
 use crate::plain::{Answer, Opening, Plain, Record, Reply, Room, Said, mirrors};
 use tenon::stand_ins::{ended, set_clock};
 use tenon::tools::{Cancel, STOPPED};
-use tenon::topo::{Design, Goal, Stiffness, Stop, level_of, modulus, optimize};
+use tenon::topo::{Design, Goal, SETTLED, Stiffness, Stop, level_of, modulus, optimize};
 
 pub fn all(run: &mut Run) {
     run.jobs("plain run", 1000, [], small, |job| original_trace(&job), |job| plain_trace(&job));
 }
 
-/// A job that opens, mostly of few elements.
+/// A job that opens, mostly of few elements; now and then one that is about to settle or to level off.
 pub fn small(g: &mut Gen) -> Job {
     loop {
         let n = if g.below(64) == 0 { 100 + g.below(300) } else { 1 + g.below(24) };
-        let job = Job::random(g, n);
+        let job = match g.below(32) {
+            0 => Job::settling(g),
+            1 => Job::swinging(g),
+            _ => Job::random(g, n),
+        };
         if opens(&job) {
             return job;
         }
@@ -39,6 +43,8 @@ pub enum Event {
     Odd(f64, usize),
     /// This energy everywhere.
     All(f64),
+    /// At each question all the energy is at one of two places, in turn, and the work 1000 or 1001: what it changes by is 0.001 of the one.
+    Swings,
 }
 
 /// A run's opening, and what the solver and the caller do at each question, the solid part's first. The lists go on as their last entry.
@@ -129,6 +135,44 @@ impl Job {
         }
     }
 
+    /// A job of nothing but its rounds: no element held, none with a neighbour, and nothing that stops it but its changes, its work and its
+    /// limit.
+    fn bare(g: &mut Gen, n: usize, fraction: f64, rounds: usize) -> Job {
+        let job = Job::random(g, n);
+        let opening =
+            Opening { volumes: vec![1.0; n], passive: vec![false; n], fraction, radius: 0.001, flag: false, rounds, ..job.opening };
+        Job { opening, noise: 0.0, event: (0, Event::Works), flag: None, allowed: u64::MAX, ..job }
+    }
+
+    /// A job whose first change is 0.01, or as near to it as a change comes: one element's energy is searched for that. The densities are
+    /// so small that 0.01 is a difference of two.
+    fn settling(g: &mut Gen) -> Job {
+        let (n, fraction, rounds) = (4 + g.below(12), 0.0125 + 0.003 * g.unit(), 2 + g.below(6));
+        let mut job = Job::bare(g, n, fraction, rounds);
+        job.weights = (0..n).map(|_| 1.0 + 0.2 * g.unit()).collect();
+        let mut first = job.clone();
+        first.opening.rounds = 1;
+        let mut below = |energy: f64| {
+            first.event = (1, Event::Odd(energy, 0));
+            original_trace(&first).records.first().is_some_and(|r| r.change < SETTLED)
+        };
+        // The others are some 10^5: with that this element changes little, and with 1 it falls by more than 0.01. (Of one that rises by as
+        // much, the rates that are tried go with its energy, and the change leaps.)
+        let (mut low, mut high) = (1f64, 1e5f64);
+        while low.next_up() < high {
+            let middle = f64::from_bits((low.to_bits() + high.to_bits()) / 2);
+            if below(middle) { high = middle } else { low = middle }
+        }
+        job.event = (1, Event::Odd(if g.below(4) == 0 { high } else { low }, 0));
+        job
+    }
+
+    /// A job whose work differs from the round before's by just 0.001 times its own every other round, and by less in between.
+    fn swinging(g: &mut Gen) -> Job {
+        let (n, fraction, rounds) = (2 + g.below(8), 0.3 + 0.4 * g.unit(), g.pick(&[8, 12, 100]));
+        Job { event: (0, Event::Swings), ..Job::bare(g, n, fraction, rounds) }
+    }
+
     /// What the solver says to question `q`, the first being the solid part.
     pub fn said(&self, q: usize, levels: &[u16]) -> Said {
         let n = levels.len();
@@ -137,9 +181,13 @@ impl Job {
             let mut g = Gen::of(q as u64, "noise");
             energies.iter_mut().for_each(|u| *u *= 1.0 + self.noise * g.signed());
         }
+        if self.event.1 == Event::Swings {
+            energies.fill(0.0);
+            energies[q % 2] = if q % 2 == 0 { 500.0 } else { 500.5 };
+        }
         if q == self.event.0 {
             match self.event.1 {
-                Event::Works => {}
+                Event::Works | Event::Swings => {}
                 Event::Fails => return Said::Failed,
                 Event::Halts => return Said::Halted,
                 Event::Short => energies.truncate(n - 1),
@@ -299,5 +347,21 @@ mod tests {
             assert!(seen.get(&end).is_some_and(|n| *n >= 10), "{end}: {seen:?}");
         }
         assert!(steepest >= 10, "{steepest} at 16");
+    }
+
+    /// That jobs which are about to settle change by just 0.01, and those about to level off differ by just 0.001 times the work.
+    #[test]
+    fn changes_just_at_the_limits() {
+        let mut g = Gen::of(1, "settling");
+        let (mut at, mut near) = ([0; 2], 0);
+        for _ in 0..100 {
+            let job = Job::settling(&mut g);
+            let first = original_trace(&job).records[0].change;
+            at[usize::from(job.opening.sharpen)] += usize::from(first == SETTLED);
+            near += usize::from((first - SETTLED).abs() < 1e-17);
+        }
+        assert!(at[0] >= 10 && at[1] >= 10 && near >= 90, "{at:?} at 0.01 and {near} beside it");
+        let works: Vec<f64> = original_trace(&Job::swinging(&mut g)).records.iter().map(|r| r.compliance).collect();
+        assert!(works.starts_with(&[1001.0, 1000.0, 1001.0, 1000.0, 1001.0, 1000.0]), "{works:?}");
     }
 }
