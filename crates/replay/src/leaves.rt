@@ -1,9 +1,9 @@
 // One case of each leaf: its arguments are read, then what the Rust gave.
-use crate::words::number;
-use crate::words::same;
-use crate::words::word;
 use geom::Mirror;
 use geom::Vec3;
+use sample::words::number;
+use sample::words::same;
+use sample::words::word;
 
 fn point() -> Vec3 {
     let x = number();

@@ -3,14 +3,14 @@
 mod leaves;
 mod meshes;
 mod products;
-mod read;
 mod regions;
 mod runs;
 mod tables;
 mod updates;
-mod words;
 
 use libc::STDOUT_FILENO;
+use sample::tell::Totals;
+use sample::words::word;
 
 // No sample has more sections.
 const SECTIONS: u64 = 100;
@@ -84,39 +84,19 @@ fn section(function: u64, count: u64) -> u64 {
     different
 }
 
-fn told(count: u64, different: u64) {
-    io::write_all(STDOUT_FILENO, b" ");
-    io::print_decimal(STDOUT_FILENO, count);
-    io::write_all(STDOUT_FILENO, b" differences ");
-    io::print_decimal(STDOUT_FILENO, different);
-    io::write_all(STDOUT_FILENO, b"\n");
-}
-
-struct Totals {
-    cases: u64,
-    different: u64,
-}
-
 // Replays one section, writes its line and adds it to the totals.
 fn replayed(t: Totals, function: u64) -> Totals {
-    let count = words::word();
+    let count = word();
     let different = section(function, count);
     name(function);
-    told(count, different);
-    Totals {
-        cases: std::num::wrapping_add_u64(t.cases, count),
-        different: std::num::wrapping_add_u64(t.different, different),
-    }
+    t.with(count, different)
 }
 
 // A loop has to end, and nothing says that the input does: so the sections are counted.
 fn sections() -> Totals {
-    let mut t = Totals {
-        cases: 0,
-        different: 0,
-    };
+    let mut t = Totals::none();
     for _i in 0..SECTIONS {
-        let function = words::word();
+        let function = word();
         if function == 0 {
             return t;
         }
@@ -126,7 +106,5 @@ fn sections() -> Totals {
 }
 
 fn main() {
-    let t = sections();
-    io::write_all(STDOUT_FILENO, b"cases");
-    told(t.cases, t.different);
+    sample::tell::total(sections());
 }

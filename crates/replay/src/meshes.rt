@@ -1,8 +1,8 @@
 // One case of a tetrahedron, of 10 nodes: the nodes, its ten numbers; then its volume, corner volume and middle, and the nodes' extent.
-use crate::read::counts;
-use crate::read::points;
-use crate::words::number;
-use crate::words::same;
+use sample::read::counts;
+use sample::read::points;
+use sample::words::number;
+use sample::words::same;
 
 pub fn tetrahedron() -> bool {
     let mut nodes = [[0.0; 3]; 10];

@@ -1,7 +1,7 @@
 // One case of each product with the filter's table, of 12 rows and 48 entries: the table's three lists, the list, then what the Rust gave.
-use crate::read::are;
-use crate::read::counts;
-use crate::read::floats;
+use sample::read::are;
+use sample::read::counts;
+use sample::read::floats;
 
 pub fn apply() -> bool {
     let mut starts = [0u32; 13];

@@ -1,18 +1,11 @@
 // One case of `off_centre`, of 8 points: the points, the plane's point and normal; then 0, or 1 and how far they reach to each side.
-use crate::read::points;
-use crate::words::number;
-use crate::words::same;
-use crate::words::word;
 use geom::Mirror;
-use geom::Vec3;
 use off_centre::Balance;
-
-fn point() -> Vec3 {
-    let x = number();
-    let y = number();
-    let z = number();
-    Vec3::new(x, y, z)
-}
+use sample::read::point;
+use sample::read::points;
+use sample::words::number;
+use sample::words::same;
+use sample::words::word;
 
 fn is_balance(b: Balance) -> bool {
     let kind = word();

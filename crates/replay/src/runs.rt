@@ -1,18 +1,18 @@
 // One case of a whole run, of 8 elements: volumes, middles, marks, the planes, the goal, and what the opening replied; then for each question the levels
 // asked for, the solver's answer, the record that was made and the reply; and of a run that stopped the solid part's work and the densities.
-use crate::read::are;
-use crate::read::flags;
-use crate::read::floats;
-use crate::read::planes;
-use crate::read::points;
-use crate::words::number;
-use crate::words::same;
-use crate::words::word;
 use answering::Told;
 use plain::Phase;
 use plain::Reply;
 use plain::Said;
 use plain::State;
+use sample::read::are;
+use sample::read::flags;
+use sample::read::floats;
+use sample::read::planes;
+use sample::read::points;
+use sample::words::number;
+use sample::words::same;
+use sample::words::word;
 use topo::Goal;
 use topo::Iteration;
 use topo::Stop;

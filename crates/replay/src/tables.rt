@@ -1,11 +1,11 @@
 // One case of a filter's table, of 8 elements: middles, volumes, radius, the planes; then starts, neighbours and coefficients, 64 places each of the
 // last two, zero behind the last row.
-use crate::read::are;
-use crate::read::are_counts;
-use crate::read::floats;
-use crate::read::planes;
-use crate::read::points;
-use crate::words::number;
+use sample::read::are;
+use sample::read::are_counts;
+use sample::read::floats;
+use sample::read::planes;
+use sample::read::points;
+use sample::words::number;
 
 // The planes are read last.
 fn built(centroids: &[[f64; 3]], volumes: &[f64], radius: f64, planes: &[[f64; 6]]) -> bool {

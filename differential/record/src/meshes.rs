@@ -3,7 +3,7 @@ use tenon::Vec3;
 use tenon::mesh::TetMesh;
 use tenon::topo::{Filter, Mirror, region};
 
-use crate::inputs::{Gen, Point};
+use crate::inputs::{Gen, Point, cube_edge};
 use crate::sample::Sample;
 
 const ELEMENTS: usize = 8;
@@ -16,7 +16,8 @@ fn vector([x, y, z]: Point) -> Vec3 {
 pub fn all(s: &mut Sample) {
     s.section(17, "tetrahedron", [], 100, tetrahedron, measured);
     s.section(22, "off_centre", [], 60, |g| (std::array::from_fn::<_, 8, _>(|_| near(g)), [near(g), normal(g)]), off_centre);
-    s.section(18, "filter", [], 30, elements, |job| table(job, []));
+    let mut g = Gen::of(1, "cubes");
+    s.section(18, "filter", std::array::from_fn::<_, 30, _>(|_| at_an_edge(&mut g)), 30, elements, |job| table(job, []));
     s.section(19, "filter of two planes", [], 30, |g| (elements(g), planes(g)), |(job, planes)| table(job, planes));
 }
 
@@ -58,6 +59,12 @@ fn elements(g: &mut Gen) -> (([Point; ELEMENTS], [f64; ELEMENTS]), f64) {
     let middles = std::array::from_fn(|_| std::array::from_fn(|_| if grid { g.below(3) as f64 } else { g.signed() * 2.0 }));
     let volumes = std::array::from_fn(|_| 0.5 + g.unit());
     ((middles, volumes), if grid { g.pick(&[1.0, 2.0, 1.5]) } else { 0.2 + 2.0 * g.unit() })
+}
+
+/// Middles whose cubes can lie two apart though they are nearer than the radius.
+fn at_an_edge(g: &mut Gen) -> (([Point; ELEMENTS], [f64; ELEMENTS]), f64) {
+    let (middles, radius, _) = cube_edge(g, ELEMENTS);
+    ((middles.try_into().expect("eight middles"), std::array::from_fn(|_| 0.5 + g.unit())), radius)
 }
 
 /// Two planes at right angles, through points near the middles.

@@ -11,6 +11,9 @@ Inv-loop t₀ i₀ t i = Unit {0}
 abbrev μ-loop : tie.MeasureT-loop
 μ-loop t₀ i₀ t i = 100 - i
 
+none-requires : tie.Need-none-requires Inv-loop μ-loop
+none-requires c κs = search needs
+
 loop-holds : tie.Need-loop-holds Inv-loop μ-loop
 loop-holds c = tt
 
@@ -36,4 +39,4 @@ returns-2 : tie.Need-returns-2 Inv-loop μ-loop
 returns-2 c = search needs
 
 pub sections-spec : {M : Type 1} → statement M
-sections-spec = tie.close (tie.spec Inv-loop μ-loop loop-holds word-requires returns replayed-requires add-i loop-less loop-again returns-2)
+sections-spec = tie.close (tie.spec Inv-loop μ-loop none-requires loop-holds word-requires returns replayed-requires add-i loop-less loop-again returns-2)

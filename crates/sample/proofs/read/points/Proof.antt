@@ -1,10 +1,10 @@
--- `read::flags` is safe and ends, and the list keeps its length. Assumes nothing.
+-- `read::points` is safe and ends, and the list keeps its length. Assumes nothing.
 use mathlib.Core.Path.{_≡_, refl}
 use Prim.Native.Nat.{_-_}
 use lib.ListN.{length}
 use borrow.Author.Needs.{needs}
-use Rattle.replay.proofs.read.flags.Statement.{statement}
-use Rattle.replay.proofs.read.flags.Tie as tie
+use Rattle.sample.proofs.read.points.Statement.{statement}
+use Rattle.sample.proofs.read.points.Tie as tie
 
 abbrev Inv-loop : tie.InvT-loop
 Inv-loop to₀ i₀ to i = length to ≡ length to₀
@@ -15,11 +15,20 @@ abbrev μ-loop : tie.MeasureT-loop
 loop-holds : tie.Need-loop-holds Inv-loop μ-loop
 loop-holds c = refl
 
-word-requires : tie.Need-word-requires Inv-loop μ-loop
-word-requires c κs = search needs
+number-requires : tie.Need-number-requires Inv-loop μ-loop
+number-requires c κs = search needs
 
-slice-write-to : tie.Need-slice-write-to Inv-loop μ-loop
-slice-write-to c = search needs
+number-requires-2 : tie.Need-number-requires-2 Inv-loop μ-loop
+number-requires-2 c κs = search needs
+
+number-requires-3 : tie.Need-number-requires-3 Inv-loop μ-loop
+number-requires-3 c κs = search needs
+
+mul-t6 : tie.Need-mul-t6 Inv-loop μ-loop
+mul-t6 c = search needs
+
+slice-set-from-to : tie.Need-slice-set-from-to Inv-loop μ-loop
+slice-set-from-to c = search needs
 
 add-i : tie.Need-add-i Inv-loop μ-loop
 add-i c = search needs
@@ -36,15 +45,18 @@ same-length c = search needs
 returns : tie.Need-returns Inv-loop μ-loop
 returns c = search needs
 
-pub flags-spec : {M : Type 1} → statement M
-flags-spec =
+pub points-spec : {M : Type 1} → statement M
+points-spec =
     tie.close
     (tie.spec
     Inv-loop
     μ-loop
     loop-holds
-    word-requires
-    slice-write-to
+    number-requires
+    number-requires-2
+    number-requires-3
+    mul-t6
+    slice-set-from-to
     add-i
     loop-less
     loop-again

@@ -2,8 +2,8 @@
 use Prim.Native.Nat.{_-_}
 use lib.ListN.{length}
 use borrow.Author.Needs.{needs}
-use Rattle.replay.proofs.read.are.Statement.{statement}
-use Rattle.replay.proofs.read.are.Tie as tie
+use Rattle.sample.proofs.read.are.Statement.{statement}
+use Rattle.sample.proofs.read.are.Tie as tie
 
 abbrev Inv-loop : tie.InvT-loop
 Inv-loop list all₀ i₀ all i = Unit {0}

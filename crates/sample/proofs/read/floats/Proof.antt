@@ -3,8 +3,8 @@ use mathlib.Core.Path.{_≡_, refl}
 use Prim.Native.Nat.{_-_}
 use lib.ListN.{length}
 use borrow.Author.Needs.{needs}
-use Rattle.replay.proofs.read.floats.Statement.{statement}
-use Rattle.replay.proofs.read.floats.Tie as tie
+use Rattle.sample.proofs.read.floats.Statement.{statement}
+use Rattle.sample.proofs.read.floats.Tie as tie
 
 abbrev Inv-loop : tie.InvT-loop
 Inv-loop to₀ i₀ to i = length to ≡ length to₀

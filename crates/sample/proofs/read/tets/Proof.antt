@@ -1,10 +1,10 @@
--- `read::counts` is safe and ends, and the list keeps its length. Assumes nothing.
+-- `read::tets` is safe and ends, and the list keeps its length. Assumes nothing.
 use mathlib.Core.Path.{_≡_, refl}
 use Prim.Native.Nat.{_-_}
 use lib.ListN.{length}
 use borrow.Author.Needs.{needs}
-use Rattle.replay.proofs.read.counts.Statement.{statement}
-use Rattle.replay.proofs.read.counts.Tie as tie
+use Rattle.sample.proofs.read.tets.Statement.{statement}
+use Rattle.sample.proofs.read.tets.Tie as tie
 
 abbrev Inv-loop : tie.InvT-loop
 Inv-loop to₀ i₀ to i = length to ≡ length to₀
@@ -15,17 +15,14 @@ abbrev μ-loop : tie.MeasureT-loop
 loop-holds : tie.Need-loop-holds Inv-loop μ-loop
 loop-holds c = refl
 
-word-requires : tie.Need-word-requires Inv-loop μ-loop
-word-requires c κs = search needs
+ten-requires : tie.Need-ten-requires Inv-loop μ-loop
+ten-requires c κs = search needs
 
-cast-to : tie.Need-cast-to Inv-loop μ-loop
-cast-to c = search needs
+mul-t3 : tie.Need-mul-t3 Inv-loop μ-loop
+mul-t3 c = search needs
 
-mul-to : tie.Need-mul-to Inv-loop μ-loop
-mul-to c = search needs
-
-slice-write-to : tie.Need-slice-write-to Inv-loop μ-loop
-slice-write-to c = search needs
+slice-set-from-to : tie.Need-slice-set-from-to Inv-loop μ-loop
+slice-set-from-to c = search needs
 
 add-i : tie.Need-add-i Inv-loop μ-loop
 add-i c = search needs
@@ -42,17 +39,16 @@ same-length c = search needs
 returns : tie.Need-returns Inv-loop μ-loop
 returns c = search needs
 
-pub counts-spec : {M : Type 1} → statement M
-counts-spec =
+pub tets-spec : {M : Type 1} → statement M
+tets-spec =
     tie.close
     (tie.spec
     Inv-loop
     μ-loop
     loop-holds
-    word-requires
-    cast-to
-    mul-to
-    slice-write-to
+    ten-requires
+    mul-t3
+    slice-set-from-to
     add-i
     loop-less
     loop-again

@@ -1,9 +1,9 @@
--- `read::are_counts` is safe and ends: the measure is the number of places that are left. Assumes nothing.
+-- `read::are_flags` is safe and ends: the measure is the number of places that are left. Assumes nothing.
 use Prim.Native.Nat.{_-_}
 use lib.ListN.{length}
 use borrow.Author.Needs.{needs}
-use Rattle.replay.proofs.read.are_counts.Statement.{statement}
-use Rattle.replay.proofs.read.are_counts.Tie as tie
+use Rattle.sample.proofs.read.are_flags.Statement.{statement}
+use Rattle.sample.proofs.read.are_flags.Tie as tie
 
 abbrev Inv-loop : tie.InvT-loop
 Inv-loop list all₀ i₀ all i = Unit {0}
@@ -14,14 +14,8 @@ abbrev μ-loop : tie.MeasureT-loop
 loop-holds : tie.Need-loop-holds Inv-loop μ-loop
 loop-holds c = tt
 
-mul-wide : tie.Need-mul-wide Inv-loop μ-loop
-mul-wide c = search needs
-
-shared-slice-read-wide : tie.Need-shared-slice-read-wide Inv-loop μ-loop
-shared-slice-read-wide c = search needs
-
-wide-requires : tie.Need-wide-requires Inv-loop μ-loop
-wide-requires c κs = search needs
+shared-slice-read-all : tie.Need-shared-slice-read-all Inv-loop μ-loop
+shared-slice-read-all c = search needs
 
 word-requires : tie.Need-word-requires Inv-loop μ-loop
 word-requires c κs = search needs
@@ -38,16 +32,14 @@ loop-again c = tt
 returns : tie.Need-returns Inv-loop μ-loop
 returns c = search needs
 
-pub are-counts-spec : {M : Type 1} → statement M
-are-counts-spec =
+pub are-flags-spec : {M : Type 1} → statement M
+are-flags-spec =
     tie.close
     (tie.spec
     Inv-loop
     μ-loop
     loop-holds
-    mul-wide
-    shared-slice-read-wide
-    wide-requires
+    shared-slice-read-all
     word-requires
     add-i
     loop-less

@@ -1,6 +1,6 @@
 // The sample's words: 64 bits each, little-endian. Past the end every word is 0.
 ghost use mathlib.Core.Path.{_≡_};
-ghost use Rattle.replay.specs.Same.{alike};
+ghost use Rattle.sample.specs.Same.{alike};
 use libc::STDIN_FILENO;
 
 fn wide(x: u8) -> u64 {

@@ -1,0 +1,18 @@
+// One case of `design`, of 20 nodes and 10 tetrahedra: the nodes, the tetrahedra; then volumes and middles.
+use sample::read::are;
+use sample::read::are_points;
+use sample::read::points;
+use sample::read::tets;
+
+pub fn design() -> bool {
+    let mut nodes = [[0.0; 3]; 20];
+    let mut elements = [[0u32; 10]; 10];
+    let mut volumes = [0.0; 10];
+    let mut middles = [[0.0; 3]; 10];
+    points(&mut nodes);
+    tets(&mut elements);
+    let refused = mesh::design(&nodes, &elements, &mut volumes, &mut middles);
+    let all_volumes = are(&volumes);
+    let all_middles = are_points(&middles);
+    (refused == 0) & all_volumes & all_middles
+}
