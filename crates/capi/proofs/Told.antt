@@ -4,7 +4,7 @@ use mathlib.Core.List.{List}
 use lib.Ieee.{Float}
 use Rattle.oc.specs.declared.kept.Rule.{Rule}
 use Rattle.update.specs.declared.Updated.{Updated}
-use Rattle.rates.specs.Rates.{Given, updated}
+use Rattle.update_rates.specs.Rates.{Given, updated}
 use Rattle.update.specs.Update.{Done}
 use Rattle.capi.specs.declared.updates.Update.{Update}
 use Rattle.capi.specs.Numbers.{toldOf, answerOf}

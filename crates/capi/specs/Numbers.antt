@@ -9,7 +9,7 @@ use Rattle.oc.specs.declared.seen.Sharpness.{Sharpness}
 use Rattle.oc.specs.declared.seen.Sharpness.the-variants.{Off, At}
 use Rattle.oc.specs.declared.kept.Rule.{Rule}
 use Rattle.oc.specs.declared.kept.Rule.the-variants.{Straight, Sharpened}
-use Rattle.rates.specs.Rates.{Given, updated}
+use Rattle.update_rates.specs.Rates.{Given, updated}
 use Rattle.update.specs.declared.Updated.{Updated}
 use Rattle.update.specs.declared.Ending.{Ending}
 use Rattle.update.specs.declared.Ending.the-variants.{Met, Cramped, Spent}

@@ -7,11 +7,11 @@ use mathlib.Core.List.{List}
 use lib.Ieee.{Float}
 use Rattle.lists.specs.Lists.{zero64}
 use Rattle.geom.specs.declared.Mirror.{Mirror}
-use Rattle.asymmetry.specs.Asymmetry.{Lent, Measured}
-use Rattle.asymmetry.specs.declared.Distance.{Distance}
-use Rattle.asymmetry.specs.declared.Distance.the-variants.{Refused as Unmeasured, Apart}
-use Rattle.off_centre.specs.declared.Balance.{Balance}
-use Rattle.off_centre.specs.declared.Balance.the-variants.{Refused as Unweighed, Even, Reaches}
+use Rattle.region_asymmetry.specs.Asymmetry.{Lent, Measured}
+use Rattle.region_asymmetry.specs.declared.Distance.{Distance}
+use Rattle.region_asymmetry.specs.declared.Distance.the-variants.{Refused as Unmeasured, Apart}
+use Rattle.region_off_centre.specs.declared.Balance.{Balance}
+use Rattle.region_off_centre.specs.declared.Balance.the-variants.{Refused as Unweighed, Even, Reaches}
 use Rattle.capi.specs.declared.regions.Asymmetry.{Asymmetry}
 use Rattle.capi.specs.declared.regions.OffCentre.{OffCentre}
 

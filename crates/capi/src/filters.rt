@@ -2,7 +2,7 @@
 ghost use mathlib.Core.Path.{_≡_};
 ghost use lib.ListN.{length};
 ghost use Rattle.filter.specs.Build.{Built};
-ghost use Rattle.table.specs.Table.{applied, backed};
+ghost use Rattle.filter_table.specs.Table.{applied, backed};
 
 // The filter's table, over the radius and the same on both sides of each plane (its point, then its normal), and 0 or the refusal. 1 to 4 and 8 to 12
 // in order, and 14 before the first row, leave all lists as before; 13 and 14 at a row leave the table's lists and the working lists zero throughout. A
@@ -28,7 +28,7 @@ pub extern "C" fn sokdrib_filter_build(
 ) -> u32
     ensures { λ r. ⌜ Built (now (centroids .entry)) (now (volumes .entry)) radius (now (planes .entry)) (record { starts = now (starts .entry); near = now (near .entry); coef = now (coef .entry); cell = now (cell .entry); order = now (order .entry); first = now (first .entry); sorted = now (sorted .entry); stamp = now (stamp .entry); weight = now (weight .entry); found = now (found .entry); bits = now (bits .entry) }) r (record { starts = now (starts .exit); near = now (near .exit); coef = now (coef .exit); cell = now (cell .exit); order = now (order .exit); first = now (first .exit); sorted = now (sorted .exit); stamp = now (stamp .exit); weight = now (weight .exit); found = now (found .exit); bits = now (bits .exit) }) ⌝ }
 {
-    within::build(
+    filter_build::build(
         centroids,
         volumes,
         radius,
@@ -59,7 +59,7 @@ pub extern "C" fn sokdrib_apply(
 )
     ensures { λ _. ⌜ now (out .exit) ≡ applied (now (starts .entry)) (now (near .entry)) (now (coef .entry)) (now (x .entry)) (length (now (out .entry))) ⌝ }
 {
-    apply::apply(starts, near, coef, x, out);
+    filter_apply::apply(starts, near, coef, x, out);
 }
 
 // Slopes against filtered densities carried back to the densities: the transposed product, one row for each place of g.
@@ -73,5 +73,5 @@ pub extern "C" fn sokdrib_back(
 )
     ensures { λ _. ⌜ now (out .exit) ≡ backed (now (starts .entry)) (now (near .entry)) (now (coef .entry)) (now (g .entry)) (length (now (g .entry))) (length (now (out .entry))) ⌝ }
 {
-    back::back(starts, near, coef, g, out);
+    filter_back::back(starts, near, coef, g, out);
 }

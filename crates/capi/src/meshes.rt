@@ -2,9 +2,9 @@
 ghost use mathlib.Core.Path.{_≡_};
 ghost use mathlib.Core.List.{[], _∷_};
 ghost use Rattle.mesh.specs.Mesh as Mesh;
-ghost use Rattle.block.specs.Block as Block;
-use block::Made;
+ghost use Rattle.mesh_block.specs.Block as Block;
 use geom::Vec3;
+use mesh_block::Made;
 
 // The volume of a tetrahedron, curved as its mid-side nodes make it. A node that is not there is the origin. This call and the three after it are
 // leaves: they work on nodes of any count and any bits, and refuse nothing; sokdrib_design refuses what is outside the domain.
@@ -68,5 +68,5 @@ pub extern "C" fn sokdrib_block(
 ) -> Made
     ensures { λ r. ⌜ Block.Built (Block.gridOf (nx ∷ ny ∷ nz ∷ []) size) (now (nodes .entry)) (now (nodes .exit)) (now (tets .entry)) (now (tets .exit)) (now (surfaces .entry)) (now (surfaces .exit)) (now (tris .entry)) (now (tris .exit)) (now (edges .entry)) (now (edges .exit)) r ⌝ }
 {
-    block::block([nx, ny, nz], size, nodes, tets, surfaces, tris, edges)
+    mesh_block::block([nx, ny, nz], size, nodes, tets, surfaces, tris, edges)
 }

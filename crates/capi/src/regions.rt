@@ -1,12 +1,12 @@
 // What must stay solid, and whether a part is the same on both sides of a plane.
 ghost use mathlib.Core.Path.{_≡_};
-ghost use Rattle.passive.specs.Passive.{Marked};
-ghost use Rattle.asymmetry.specs.Asymmetry.{lent};
-ghost use Rattle.off_centre.specs.OffCentre.{offCentreOf};
+ghost use Rattle.region_passive.specs.Passive.{Marked};
+ghost use Rattle.region_asymmetry.specs.Asymmetry.{lent};
+ghost use Rattle.region_off_centre.specs.OffCentre.{offCentreOf};
 ghost use Rattle.capi.specs.Regions as Regions;
-use asymmetry::Distance;
 use geom::Mirror;
-use off_centre::Balance;
+use region_asymmetry::Distance;
+use region_off_centre::Balance;
 
 // The elements that must stay solid, and 0 or the refusal: 3, 21, 9, 8 or 14, with all lists as before. A triangle has its three corners' numbers and
 // then those of the middles of its sides, and its surface is in surfaces. held and loaded are numbers of nodes. Set s of kept surfaces is kept from
@@ -33,7 +33,7 @@ pub extern "C" fn sokdrib_passive(
 ) -> u32
     ensures { λ r. ⌜ Marked (record { nodes = now (nodes .entry); tets = now (tets .entry); tris = now (tris .entry); surfaces = now (surfaces .entry); held = now (held .entry); loaded = now (loaded .entry); starts = now (starts .entry); kept = now (kept .entry); depths = now (depths .entry) }) (record { marks = now (marks .entry); keep = now (keep .entry); middles = now (middles .entry); cells = now (cells .entry); order = now (order .entry); place = now (place .entry); first = now (first .entry) }) (record { marks = now (marks .exit); keep = now (keep .exit); middles = now (middles .exit); cells = now (cells .exit); order = now (order .exit); place = now (place .exit); first = now (first .exit) }) r ⌝ }
 {
-    passive::passive(
+    region_passive::passive(
         nodes,
         tets,
         tris,
@@ -107,7 +107,7 @@ pub extern "C" fn sokdrib_asymmetry(
         (lent (now (faces .entry)) (now (kx .entry)) (now (ky .entry)) (now (kz .entry)) (now (order .entry)) (now (scratch .entry)) (now (boxes .entry)) (now (seen .entry)))
         (lent (now (faces .exit)) (now (kx .exit)) (now (ky .exit)) (now (kz .exit)) (now (order .exit)) (now (scratch .exit)) (now (boxes .exit)) (now (seen .exit))) r ⌝ }
 {
-    let d = asymmetry::asymmetry(
+    let d = region_asymmetry::asymmetry(
         nodes,
         tris,
         mirror,
@@ -190,6 +190,6 @@ fn balance_told(b: Balance) -> OffCentre
 pub extern "C" fn sokdrib_off_centre(points: &[[f64; 3]], mirror: Mirror) -> OffCentre
     ensures { λ r. ⌜ r ≡ Regions.balanceTold (offCentreOf (now (points .entry)) mirror) ⌝ }
 {
-    let b = off_centre::off_centre(points, mirror);
+    let b = region_off_centre::off_centre(points, mirror);
     balance_told(b)
 }

@@ -177,7 +177,7 @@ pub extern "C" fn sokdrib_work_slope(
     if refused != 0 {
         return refused;
     }
-    slopes::work_slope(
+    oc_slopes::work_slope(
         starts,
         near,
         coef,
@@ -212,7 +212,7 @@ pub extern "C" fn sokdrib_volume_slope(
     if refused != 0 {
         return refused;
     }
-    slopes::volume_slope(
+    oc_slopes::volume_slope(
         starts,
         near,
         coef,

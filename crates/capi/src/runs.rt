@@ -1,8 +1,8 @@
 // A run: opened, and then answered question by question.
-ghost use Rattle.flat.specs.Flat.{saidOf, OpenedAs, AnsweredAs};
-use flat::RunState;
-use flat::RunStep;
-use flat::RunTold;
+ghost use Rattle.c_numbers.specs.Flat.{saidOf, OpenedAs, AnsweredAs};
+use c_numbers::RunState;
+use c_numbers::RunStep;
+use c_numbers::RunTold;
 
 // Opens a run on a state with none open: the solid part is asked for, or the refusal's number is told. room is how many records the history has room
 // for; the opening writes none. 1 to 12, 20, and 14 before the first row, leave all lists as before; 13 and 14 at a row leave the filter's lists and the
@@ -43,7 +43,7 @@ pub extern "C" fn sokdrib_open(
         (record { volumes = now (volumes .entry); passive = now (passive .entry); starts = now (starts .exit); near = now (near .exit); coef = now (coef .exit); design = now (design .exit); density = now (density .exit); last = now (last .entry) })
         (record { cell = now (cell .exit); order = now (order .exit); first = now (first .exit); sorted = now (sorted .exit); stamp = now (stamp .exit); weight = now (weight .exit); found = now (found .exit); bits = now (bits .exit) }) ⌝ }
 {
-    calls::open(
+    c_calls::open(
         room,
         state,
         fraction,
@@ -106,7 +106,7 @@ pub extern "C" fn sokdrib_answer(
         (record { volumes = now (volumes .entry); passive = now (passive .entry); starts = now (starts .entry); near = now (near .entry); coef = now (coef .entry); design = now (design .exit); density = now (density .exit); last = now (last .exit) })
         (record { free = now (free .exit); slope = now (slope .exit); spare = now (spare .exit); dc = now (dc .exit); dv = now (dv .exit) }) ⌝ }
 {
-    calls::answer(
+    c_calls::answer(
         room,
         state,
         said,

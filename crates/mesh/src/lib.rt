@@ -4,7 +4,7 @@ ghost use Rattle.mesh.specs.Mesh as Mesh;
 ghost use Rattle.mesh.specs.Steps as Steps;
 use geom::Vec3;
 
-// A lent point. Internal: for `block` too.
+// A lent point. Internal: for `mesh_block` too.
 pub fn point(p: [f64; 3]) -> Vec3
     ensures { λ r. ⌜ r ≡ Mesh.point p ⌝ }
 {
@@ -65,7 +65,7 @@ fn moves(c: Vec3, m1: Vec3, m2: Vec3, m3: Vec3) -> Vec3
     c.add(m1).add(m2).add(m3)
 }
 
-// dot(d1 - d0, cross(d2 - d0, d3 - d0)). Internal: for `block` too.
+// dot(d1 - d0, cross(d2 - d0, d3 - d0)). Internal: for `mesh_block` too.
 pub fn triple(d0: Vec3, d1: Vec3, d2: Vec3, d3: Vec3) -> f64
     ensures { λ r. ⌜ r ≡ Mesh.triple d0 d1 d2 d3 ⌝ }
 {
@@ -199,14 +199,14 @@ pub fn extent(nodes: &[[f64; 3]]) -> f64
     hi.sub(lo).len()
 }
 
-// Whether a node lies outside the domain. Internal: for `block` too.
+// Whether a node lies outside the domain. Internal: for `mesh_block` too.
 pub fn outside(p: Vec3) -> bool
     ensures { λ r. ⌜ r ≡ Mesh.nodeOutside p ⌝ }
 {
     !(ieee::abs(p.x) <= 1000000.0) | !(ieee::abs(p.y) <= 1000000.0) | !(ieee::abs(p.z) <= 1000000.0)
 }
 
-// Whether any node does. Internal: for `boundary` too.
+// Whether any node does. Internal: for `region_checks` too.
 pub fn any_outside(nodes: &[[f64; 3]]) -> bool
     ensures { λ r. ⌜ r ≡ Mesh.nodesOutside (now (nodes .entry)) ⌝ }
 {

@@ -5,7 +5,7 @@ use mathlib.Core.List.{List}
 use Prim.Native.Nat.{ℕ}
 use lib.ListN.{length}
 use lib.Ieee.{Float, binary64, add}
-use Rattle.table.specs.Table.{applied, backed}
+use Rattle.filter_table.specs.Table.{applied, backed}
 use Rattle.oc.specs.declared.seen.Sharpness.{Sharpness}
 use Rattle.oc.specs.declared.seen.Sharpness.the-variants.{At}
 use Rattle.oc.specs.declared.kept.Rule.{Rule}

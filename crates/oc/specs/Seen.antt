@@ -6,7 +6,7 @@ use lib.ListN.{length, getD}
 use lib.Ieee.{Float, nan}
 use Rattle.lists.specs.Lists.{tabulate, choose, zero64}
 use Rattle.ieee.specs.Basic.{one64, clampOf}
-use Rattle.table.specs.Table.{applied}
+use Rattle.filter_table.specs.Table.{applied}
 use Rattle.oc.specs.declared.seen.Sharpness.{Sharpness}
 use Rattle.oc.specs.declared.seen.Sharpness.the-variants.{Off, At}
 use Rattle.oc.specs.Project.{projected, projectedSlope}

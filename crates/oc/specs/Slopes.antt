@@ -7,7 +7,7 @@ use lib.Ieee.{Float, nan, binary64, sub, mul, div, neg, ofBits}
 use Rattle.lists.specs.Lists.{tabulate, choose, zero64}
 use Rattle.ieee.specs.Basic.{one64}
 use Rattle.topo.specs.Levels.{FLOOR, levelOf, modulusOf}
-use Rattle.table.specs.Table.{backed}
+use Rattle.filter_table.specs.Table.{backed}
 use Rattle.oc.specs.Record.{two64}
 
 -- PENALTY, 3.0

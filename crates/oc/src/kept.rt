@@ -2,7 +2,7 @@
 ghost use mathlib.Core.Path.{_≡_};
 ghost use mathlib.Core.Bool.{true};
 ghost use lib.ListN.{length};
-ghost use Rattle.table.specs.Table.{Wf, applied};
+ghost use Rattle.filter_table.specs.Table.{Wf, applied};
 ghost use Rattle.oc.specs.Seen.{densities};
 ghost use Rattle.oc.specs.Kept.{keptOf};
 use crate::seen::Sharpness;
@@ -20,9 +20,9 @@ fn filtered(well: bool, starts: &[u32], near: &[u32], coef: &[f64], x: &[f64], o
     ensures { λ _. ⌜ now (out .exit) ≡ applied (now (starts .entry)) (now (near .entry)) (now (coef .entry)) (now (x .entry)) (length (now (out .entry))) ⌝ }
 {
     if well {
-        table::apply_well(starts, near, coef, x, out);
+        filter_table::apply_well(starts, near, coef, x, out);
     } else {
-        apply::apply(starts, near, coef, x, out);
+        filter_apply::apply(starts, near, coef, x, out);
     }
 }
 

@@ -90,7 +90,7 @@ pub fn see(
     requires { ⌜ (length (now density) ≡ length (now passive)) × (length (now slope) ≡ length (now passive)) ⌝ }
     ensures { λ _. ⌜ (now (density .exit) ≡ seenDensity sharpness (now (starts .entry)) (now (near .entry)) (now (coef .entry)) (now (passive .entry)) (now (x .entry))) × (now (slope .exit) ≡ seenSlope sharpness (now (starts .entry)) (now (near .entry)) (now (coef .entry)) (now (passive .entry)) (now (x .entry))) ⌝ }
 {
-    apply::apply(starts, near, coef, x, density);
+    filter_apply::apply(starts, near, coef, x, density);
     match sharpness {
         Sharpness::Off => see_plain(passive, density, slope),
         Sharpness::At(beta) => see_sharpened(beta, passive, density, slope),

@@ -1,9 +1,9 @@
 // One case of each leaf: its arguments are read, then what the Rust gave.
 use geom::Mirror;
 use geom::Vec3;
-use sample::words::number;
-use sample::words::same;
-use sample::words::word;
+use replay_sample::words::number;
+use replay_sample::words::same;
+use replay_sample::words::word;
 
 fn point() -> Vec3 {
     let x = number();

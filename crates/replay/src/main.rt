@@ -9,8 +9,8 @@ mod tables;
 mod updates;
 
 use libc::STDOUT_FILENO;
-use sample::tell::Totals;
-use sample::words::word;
+use replay_sample::tell::Totals;
+use replay_sample::words::word;
 
 // No sample has more sections.
 const SECTIONS: u64 = 100;
@@ -106,5 +106,5 @@ fn sections() -> Totals {
 }
 
 fn main() {
-    sample::tell::total(sections());
+    replay_sample::tell::total(sections());
 }

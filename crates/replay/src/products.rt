@@ -1,7 +1,7 @@
 // One case of each product with the filter's table, of 12 rows and 48 entries: the table's three lists, the list, then what the Rust gave.
-use sample::read::are;
-use sample::read::counts;
-use sample::read::floats;
+use replay_sample::read::are;
+use replay_sample::read::counts;
+use replay_sample::read::floats;
 
 pub fn apply() -> bool {
     let mut starts = [0u32; 13];
@@ -13,7 +13,7 @@ pub fn apply() -> bool {
     counts(&mut near);
     floats(&mut coef);
     floats(&mut x);
-    apply::apply(&starts, &near, &coef, &x, &mut out);
+    filter_apply::apply(&starts, &near, &coef, &x, &mut out);
     are(&out)
 }
 
@@ -27,6 +27,6 @@ pub fn back() -> bool {
     counts(&mut near);
     floats(&mut coef);
     floats(&mut g);
-    back::back(&starts, &near, &coef, &g, &mut out);
+    filter_back::back(&starts, &near, &coef, &g, &mut out);
     are(&out)
 }

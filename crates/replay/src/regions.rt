@@ -1,11 +1,11 @@
 // One case of `off_centre`, of 8 points: the points, the plane's point and normal; then 0, or 1 and how far they reach to each side.
 use geom::Mirror;
-use off_centre::Balance;
-use sample::read::point;
-use sample::read::points;
-use sample::words::number;
-use sample::words::same;
-use sample::words::word;
+use region_off_centre::Balance;
+use replay_sample::read::point;
+use replay_sample::read::points;
+use replay_sample::words::number;
+use replay_sample::words::same;
+use replay_sample::words::word;
 
 fn is_balance(b: Balance) -> bool {
     let kind = word();
@@ -23,5 +23,5 @@ pub fn off_centre() -> bool {
     points(&mut eight);
     let at = point();
     let normal = point();
-    is_balance(off_centre::off_centre(&eight, Mirror { point: at, normal }))
+    is_balance(region_off_centre::off_centre(&eight, Mirror { point: at, normal }))
 }

@@ -1,18 +1,18 @@
 // One case of a whole run, of 8 elements: volumes, middles, marks, the planes, the goal, and what the opening replied; then for each question the levels
 // asked for, the solver's answer, the record that was made and the reply; and of a run that stopped the solid part's work and the densities.
-use answering::Told;
-use plain::Phase;
-use plain::Reply;
-use plain::Said;
-use plain::State;
-use sample::read::are;
-use sample::read::flags;
-use sample::read::floats;
-use sample::read::planes;
-use sample::read::points;
-use sample::words::number;
-use sample::words::same;
-use sample::words::word;
+use replay_sample::read::are;
+use replay_sample::read::flags;
+use replay_sample::read::floats;
+use replay_sample::read::planes;
+use replay_sample::read::points;
+use replay_sample::words::number;
+use replay_sample::words::same;
+use replay_sample::words::word;
+use run_answer::Told;
+use run_plain::Phase;
+use run_plain::Reply;
+use run_plain::Said;
+use run_plain::State;
 use topo::Goal;
 use topo::Iteration;
 use topo::Stop;
@@ -141,7 +141,7 @@ fn opened(
     let mut weight = [0.0; 8];
     let mut found = [0u32; 8];
     let mut bits = [0u64; 1040];
-    opens::take(
+    run_open::take(
         ROOM,
         fresh(),
         goal,
@@ -196,7 +196,7 @@ fn turn(
     let mut dv = [0.0; 8];
     floats(&mut energies);
     let told = t.told;
-    let s = answering::take(
+    let s = run_answer::take(
         ROOM,
         told.state,
         said,

@@ -1,11 +1,11 @@
 // One case of a filter's table, of 8 elements: middles, volumes, radius, the planes; then starts, neighbours and coefficients, 64 places each of the
 // last two, zero behind the last row.
-use sample::read::are;
-use sample::read::are_counts;
-use sample::read::floats;
-use sample::read::planes;
-use sample::read::points;
-use sample::words::number;
+use replay_sample::read::are;
+use replay_sample::read::are_counts;
+use replay_sample::read::floats;
+use replay_sample::read::planes;
+use replay_sample::read::points;
+use replay_sample::words::number;
 
 // The planes are read last.
 fn built(centroids: &[[f64; 3]], volumes: &[f64], radius: f64, planes: &[[f64; 6]]) -> bool {
@@ -20,7 +20,7 @@ fn built(centroids: &[[f64; 3]], volumes: &[f64], radius: f64, planes: &[[f64; 6
     let mut weight = [0.0; 8];
     let mut found = [0u32; 8];
     let mut bits = [0u64; 1040];
-    let refused = within::build(
+    let refused = filter_build::build(
         centroids,
         volumes,
         radius,

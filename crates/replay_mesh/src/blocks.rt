@@ -1,12 +1,12 @@
 // One case of `block`, of at most 2 cells a side: the cells, the size; then how many nodes, tetrahedra and triangles there are, and their lists, of 125, 48 and 48
 // places, zero behind the last.
-use block::Made;
-use sample::read::are_counts;
-use sample::read::are_points;
-use sample::read::are_tets;
-use sample::read::are_tris;
-use sample::read::point;
-use sample::words::word;
+use mesh_block::Made;
+use replay_sample::read::are_counts;
+use replay_sample::read::are_points;
+use replay_sample::read::are_tets;
+use replay_sample::read::are_tris;
+use replay_sample::read::point;
+use replay_sample::words::word;
 
 fn cells() -> usize {
     (word() % 3) as usize
@@ -29,7 +29,7 @@ pub fn block() -> bool {
     let mut surfaces = [0u32; 48];
     let mut tris = [[0u32; 6]; 48];
     let mut edges = [0u32; 216];
-    let made = block::block(
+    let made = mesh_block::block(
         [x, y, z],
         size,
         &mut nodes,

@@ -1,11 +1,11 @@
 // One case of `asymmetry`, of 30 nodes and 20 triangles: the nodes, the triangles, the plane's point and normal; then the distance.
-use asymmetry::Distance;
 use geom::Mirror;
-use sample::read::point;
-use sample::read::points;
-use sample::read::tris;
-use sample::words::number;
-use sample::words::same;
+use region_asymmetry::Distance;
+use replay_sample::read::point;
+use replay_sample::read::points;
+use replay_sample::read::tris;
+use replay_sample::words::number;
+use replay_sample::words::same;
 
 fn is_distance(d: Distance) -> bool {
     let far = number();
@@ -24,7 +24,7 @@ fn measured(nodes: &[[f64; 3]], triangles: &[[u32; 6]], mirror: Mirror) -> Dista
     let mut scratch = [0u32; 20];
     let mut boxes = [[0.0; 6]; 20];
     let mut seen = [false; 30];
-    asymmetry::asymmetry(
+    region_asymmetry::asymmetry(
         nodes,
         triangles,
         mirror,

@@ -1,8 +1,8 @@
 // One case of `design`, of 20 nodes and 10 tetrahedra: the nodes, the tetrahedra; then volumes and middles.
-use sample::read::are;
-use sample::read::are_points;
-use sample::read::points;
-use sample::read::tets;
+use replay_sample::read::are;
+use replay_sample::read::are_points;
+use replay_sample::read::points;
+use replay_sample::read::tets;
 
 pub fn design() -> bool {
     let mut nodes = [[0.0; 3]; 20];

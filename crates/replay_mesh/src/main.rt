@@ -6,8 +6,8 @@ mod designs;
 mod marks;
 
 use libc::STDOUT_FILENO;
-use sample::tell::Totals;
-use sample::words::word;
+use replay_sample::tell::Totals;
+use replay_sample::words::word;
 
 // Works out one case of a function, and answers whether it is as recorded.
 fn case(function: u64) -> bool {
@@ -56,5 +56,5 @@ fn main() {
     let t = replayed(Totals::none());
     let t = replayed(t);
     let t = replayed(t);
-    sample::tell::total(replayed(t));
+    replay_sample::tell::total(replayed(t));
 }

@@ -1,11 +1,11 @@
 // One case of `passive`, of 45 nodes, 12 tetrahedra and 20 triangles: the nodes, the tetrahedra, the triangles, their surfaces, two held and two loaded nodes, two
 // kept sets (starts, four surfaces, depths); then the marks.
-use sample::read::are_flags;
-use sample::read::counts;
-use sample::read::floats;
-use sample::read::points;
-use sample::read::tets;
-use sample::read::tris;
+use replay_sample::read::are_flags;
+use replay_sample::read::counts;
+use replay_sample::read::floats;
+use replay_sample::read::points;
+use replay_sample::read::tets;
+use replay_sample::read::tris;
 
 // The supports, loads and kept sets are read last.
 fn marked(
@@ -31,7 +31,7 @@ fn marked(
     counts(&mut starts);
     counts(&mut kept);
     floats(&mut depths);
-    let refused = passive::passive(
+    let refused = region_passive::passive(
         nodes,
         elements,
         triangles,

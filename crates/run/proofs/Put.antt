@@ -3,12 +3,12 @@ use mathlib.Core.Path.{_≡_, refl, _∙_}
 use mathlib.Core.List.{List}
 use lib.ListN.{length, set}
 use Rattle.topo.specs.declared.Iteration.{Iteration}
-use Rattle.plain.specs.declared.State.{State}
-use Rattle.plain.specs.Calls.{Asked, Told}
-use Rattle.answering.specs.declared.Told.{Told as Gives}
-use Rattle.answering.specs.declared.Step.{Step}
-use Rattle.answering.specs.Answers.{Core, Work, listsOf, Answers}
-use Rattle.opening.specs.Opens.{Work as OpenWork, Opened as CoreOpened}
+use Rattle.run_plain.specs.declared.State.{State}
+use Rattle.run_plain.specs.Calls.{Asked, Told}
+use Rattle.run_answer.specs.declared.Told.{Told as Gives}
+use Rattle.run_answer.specs.declared.Step.{Step}
+use Rattle.run_answer.specs.Answers.{Core, Work, listsOf, Answers}
+use Rattle.run_open_checks.specs.Opens.{Work as OpenWork, Opened as CoreOpened}
 use Rattle.run.specs.Run.{Opened, Answered}
 
 pub put : (s : State) (a : Told) (l : Core) (w : Work) (h : List Iteration) (r : Step) (o : Core) (w′ : Work) (h′ : List Iteration)

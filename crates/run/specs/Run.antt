@@ -1,13 +1,13 @@
--- The contracts of `open` and `answer`: what they return and leave is what `plain`'s definitions give, at every input. Definitions only.
+-- The contracts of `open` and `answer`: what they return and leave is what `run_plain`'s definitions give, at every input. Definitions only.
 use mathlib.Core.Path.{_≡_}
 use mathlib.Core.List.{List}
 use lib.ListN.{length}
 use Rattle.topo.specs.declared.Iteration.{Iteration}
-use Rattle.plain.specs.declared.State.{State}
-use Rattle.plain.specs.Calls.{Asked, Told, Result, openOf, answerOf}
-use Rattle.answering.specs.declared.Told.{Told as Gives}
-use Rattle.answering.specs.Answers.{Core, Work, listsOf, lengthsOf, verdictIn, worked}
-use Rattle.opening.specs.Opens.{Work as OpenWork, lengthsOf as openLengths, entryIn, Left}
+use Rattle.run_plain.specs.declared.State.{State}
+use Rattle.run_plain.specs.Calls.{Asked, Told, Result, openOf, answerOf}
+use Rattle.run_answer.specs.declared.Told.{Told as Gives}
+use Rattle.run_answer.specs.Answers.{Core, Work, listsOf, lengthsOf, verdictIn, worked}
+use Rattle.run_open_checks.specs.Opens.{Work as OpenWork, lengthsOf as openLengths, entryIn, Left}
 
 -- an opening: the result and every list are those of `openOf`; `work` says what is left in the working lists
 pub record Opened (s : State) (g : Asked) (l : Core) (w : OpenWork) (h : List Iteration) (r : Gives) (o : Core) (w′ : OpenWork) (h′ : List Iteration) : Type 0 where

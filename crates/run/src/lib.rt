@@ -1,9 +1,9 @@
 // The loop of `optimize` as questions and answers: a run is opened, and then answered question by question. Each call states its outcome for
 // every input.
 ghost use Rattle.run.specs.Run.{Opened, Answered};
-use answering::Told;
-use plain::Said;
-use plain::State;
+use run_answer::Told;
+use run_plain::Said;
+use run_plain::State;
 use topo::Goal;
 use topo::Iteration;
 
@@ -43,7 +43,7 @@ pub fn open(
         (record { cell = now (cell .exit); order = now (order .exit); first = now (first .exit); sorted = now (sorted .exit); stamp = now (stamp .exit); weight = now (weight .exit); found = now (found .exit); bits = now (bits .exit) })
         (now (history .exit)) ⌝ }
 {
-    opens::take(
+    run_open::take(
         history.len(),
         state,
         goal,
@@ -103,7 +103,7 @@ pub fn answer(
         (record { free = now (free .exit); slope = now (slope .exit); spare = now (spare .exit); dc = now (dc .exit); dv = now (dv .exit) })
         (now (history .exit)) ⌝ }
 {
-    let s = answering::take(
+    let s = run_answer::take(
         history.len(),
         state,
         said,
@@ -125,6 +125,6 @@ pub fn answer(
         dc,
         dv,
     );
-    answering::note(history, s.at, s.entry);
+    run_answer::note(history, s.at, s.entry);
     s.told
 }

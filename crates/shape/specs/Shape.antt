@@ -7,11 +7,11 @@ use lib.Ieee.{Float}
 use Rattle.lists.specs.Lists.{zero64}
 use Rattle.topo.specs.declared.Goal.{Goal}
 use Rattle.topo.specs.declared.Iteration.{Iteration}
-use Rattle.plain.specs.Lent.{openWork, answerWork}
-use Rattle.plain.specs.Calls.{Lists}
-use Rattle.report.specs.Report.{Outcome}
-use Rattle.job.specs.Job.{jobOf}
-use Rattle.printed.specs.Printed.{outcomeOf}
+use Rattle.run_plain.specs.Lent.{openWork, answerWork}
+use Rattle.run_plain.specs.Calls.{Lists}
+use Rattle.shape_report.specs.Report.{Outcome}
+use Rattle.shape_job.specs.Job.{jobOf}
+use Rattle.shape_text.specs.Printed.{outcomeOf}
 
 abbrev pub none : Iteration
 none = record { number = 0; compliance = zero64; fraction = zero64; change = zero64; sharpness = zero64; grey = zero64; passes = 0 }

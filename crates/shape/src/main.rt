@@ -1,8 +1,8 @@
 // Reads a job strip from standard input, runs its job, and writes what came of it to standard output. Nothing is written before the run has ended.
 ghost use Prim.Native.Nat.{_≤_};
 ghost use lib.ListN.{length};
-ghost use Rattle.report.specs.Report.{textOf};
-ghost use Rattle.report.specs.Steps.{Wrote};
+ghost use Rattle.shape_report.specs.Report.{textOf};
+ghost use Rattle.shape_report.specs.Steps.{Wrote};
 ghost use Rattle.shape.specs.Shape.{outcomeFrom};
 use libc::STDIN_FILENO;
 use libc::STDOUT_FILENO;
@@ -74,7 +74,7 @@ fn load(
     let mut centroid_bits = [[0u64; 3]; 256];
     let mut weight_bits = [0u64; 256];
     let mut mirror_bits = [[0u64; 6]; 3];
-    loaded::load(
+    strip_lists::load(
         kept,
         &mut volume_bits,
         &mut centroid_bits,
@@ -133,7 +133,7 @@ fn run(
     let mut dc = [0.0; 256];
     let mut dv = [0.0; 256];
     let n = volumes.len();
-    printed::text(
+    shape_text::text(
         goal,
         volumes,
         centroids,
@@ -173,9 +173,9 @@ fn main() {
     let input = read_all(&mut kept);
     let at = input.at;
     let answer = strip::finish(input.reader);
-    let number = strips::refusal(answer);
+    let number = strip_job::refusal(answer);
     if number > 0 {
-        let n = report::refused(&mut out, number);
+        let n = shape_report::refused(&mut out, number);
         io::write_all(STDOUT_FILENO, &out[..n]);
         return;
     }
@@ -187,7 +187,7 @@ fn main() {
         max_iterations: 0,
         mirrors: 0,
     };
-    let job = strips::job(answer, none);
+    let job = strip_job::job(answer, none);
     // a job that is not refused has no more than these
     let n = least(job.elements, 256);
     let k = least(job.mirrors, 3);
@@ -205,12 +205,12 @@ fn main() {
         &mut passive,
         &mut mirrors,
     ) {
-        let n = report::refused(&mut out, 14);
+        let n = shape_report::refused(&mut out, 14);
         io::write_all(STDOUT_FILENO, &out[..n]);
         return;
     }
     let end = run(
-        strips::goal(job),
+        strip_job::goal(job),
         &volumes[..n],
         &centroids[..n],
         &weights[..n],

@@ -9,9 +9,9 @@ use borrow.Author.Tests.{eq-eqb, ne-eqb}
 use Rattle.lists.specs.Lists.{choose}
 use Rattle.lists.proofs.Laws.{choose-true, choose-false}
 use Rattle.ieee.specs.Basic.{absOf}
-use Rattle.rates.specs.declared.Rates.{Rates}
-use Rattle.rates.specs.Rates.{Given, Stand, updated}
-use Rattle.rates.specs.Steps.{standing}
+use Rattle.update_rates.specs.declared.Rates.{Rates}
+use Rattle.update_rates.specs.Rates.{Given, Stand, updated}
+use Rattle.update_rates.specs.Steps.{standing}
 use Rattle.update.specs.declared.Updated.{Updated}
 use Rattle.update.specs.declared.Ending.{Ending}
 use Rattle.update.specs.declared.Ending.the-variants.{Met, Cramped, Spent}

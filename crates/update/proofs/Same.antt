@@ -6,7 +6,7 @@ use Prim.Native.Nat.{ℕ}
 use lib.Ieee.{Float}
 use Rattle.oc.specs.declared.kept.Rule.the-variants.{Straight}
 use Rattle.oc.specs.Kept.{keptOf}
-use Rattle.rates.specs.Rates.{given, trial, reckoned, firstRate, first, raises, raised, middle, halves, halved, raisedAll, updated}
+use Rattle.update_rates.specs.Rates.{given, trial, reckoned, firstRate, first, raises, raised, middle, halves, halved, raisedAll, updated}
 
 module _ (x gain dv : List Float) (passive : List Bool) (m target tolerance solid : Float) (starts near : List ℕ) (coef volumes : List Float) where
   pub first-same : firstRate (given x gain dv passive m target tolerance (Straight solid) starts near coef volumes) ≡ firstRate (given x gain dv passive m target tolerance (Straight solid) [] [] [] [])

@@ -1,4 +1,4 @@
--- 01, "The rounds": how an update ends. The rates that it tries, and the design which they lead to, are in crate rates (specs/Rates.antt). Definitions only.
+-- 01, "The rounds": how an update ends. The rates that it tries, and the design which they lead to, are in crate update_rates (specs/Rates.antt). Definitions only.
 use mathlib.Core.Path.{_≡_}
 use mathlib.Core.Bool.{Bool, not, _&&_}
 use mathlib.Core.List.{List}
@@ -7,7 +7,7 @@ use lib.Dec.{eqb}
 use lib.Ieee.{Float, binary64, sub, le, isNan}
 use Rattle.lists.specs.Lists.{choose}
 use Rattle.ieee.specs.Basic.{absOf}
-use Rattle.rates.specs.Rates.{Given, most, updated}
+use Rattle.update_rates.specs.Rates.{Given, most, updated}
 use Rattle.update.specs.declared.Updated.{Updated}
 use Rattle.update.specs.declared.Ending.{Ending}
 use Rattle.update.specs.declared.Ending.the-variants.{Met, Cramped, Spent}

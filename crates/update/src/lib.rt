@@ -3,13 +3,13 @@
 ghost use mathlib.Core.Path.{_≡_};
 ghost use Prim.Native.Nat.{_<_};
 ghost use lib.ListN.{length};
-ghost use Rattle.step.specs.Design.{gainsOf};
-ghost use Rattle.rates.specs.Rates.{given, firstRate, updated};
-ghost use Rattle.rates.specs.Steps.{standing};
+ghost use Rattle.update_design.specs.Design.{gainsOf};
+ghost use Rattle.update_rates.specs.Rates.{given, firstRate, updated};
+ghost use Rattle.update_rates.specs.Steps.{standing};
 ghost use Rattle.update.specs.Update.{endingOf, Done};
 use oc::kept::Rule;
-use rates::PASSES;
-use rates::Rates;
+use update_rates::PASSES;
+use update_rates::Rates;
 
 pub enum Ending {
     // the kept volume
@@ -66,7 +66,7 @@ fn fast(
     ensures { λ r. ⌜ (0 < r .passes → standing r (now (design .exit)) ≡ updated (given (now (x .entry)) (now (gain .entry)) (now (dv .entry)) (now (passive .entry)) m target tolerance rule (now (starts .entry)) (now (near .entry)) (now (coef .entry)) (now (volumes .entry)))) ⌝ }
 {
     match rule {
-        Rule::Straight(solid) => quick::straight(
+        Rule::Straight(solid) => update_straight::straight(
             x,
             gain,
             dv,
@@ -79,7 +79,7 @@ fn fast(
             design,
             work,
         ),
-        Rule::Sharpened(beta) => ahead::sharpened(
+        Rule::Sharpened(beta) => update_sharpened::sharpened(
             x,
             gain,
             dv,
@@ -120,8 +120,8 @@ pub fn update(
     requires { ⌜ (length (now dc) ≡ length (now x)) × (length (now dv) ≡ length (now x)) × (length (now passive) ≡ length (now x)) × (length (now design) ≡ length (now x)) × (length (now gain) ≡ length (now x)) × (length (now work) ≡ length (now x)) ⌝ }
     ensures { λ r. ⌜ Done (given (now (x .entry)) (gainsOf (now (dc .entry)) (now (dv .entry))) (now (dv .entry)) (now (passive .entry)) m target tolerance rule (now (starts .entry)) (now (near .entry)) (now (coef .entry)) (now (volumes .entry))) r (now (design .exit)) ⌝ }
 {
-    step::gains(dc, dv, gain);
-    let first = step::first_rate(step::most(&gain[..], passive));
+    update_design::gains(dc, dv, gain);
+    let first = update_design::first_rate(update_design::most(&gain[..], passive));
     let at = fast(
         x,
         &gain[..],
@@ -144,7 +144,7 @@ pub fn update(
         let ending = ended(target, tolerance, at);
         return Updated { ending, passes };
     }
-    let at = halving::every(
+    let at = update_defined::every(
         x,
         &gain[..],
         dv,

@@ -40,32 +40,32 @@ use denote.Triple.Call.{calls-at}
 use denote.Triple.Clauses.{ensured, lasts, Lasts}
 use denote.Triple.Table.{entered, cited}
 use denote.Triple.Walked.{says, Stays, walkOf, Walks, ends-at, walked, walk-meets}
-use Rattle.answering.specs.Answers.{Answers}
+use Rattle.run_answer.specs.Answers.{Answers}
 use Rattle.run.proofs.Put.{put}
 use Rattle.topo.specs.declared.Iteration.{Iteration as Round}
 use Rattle.topo.proofs.Iteration as Ro
 use Rattle.topo.proofs.Iteration.Laws as Ro′
-use Rattle.plain.specs.declared.State.{State}
-use Rattle.plain.proofs.State as T-State
-use Rattle.plain.proofs.State.Laws as T′-State
-use Rattle.plain.specs.declared.Said.{Said}
-use Rattle.plain.proofs.Said as T-Said
-use Rattle.plain.proofs.Said.Laws as T′-Said
-use Rattle.answering.specs.declared.Step.{Step}
-use Rattle.answering.proofs.Step as T-Step
-use Rattle.answering.proofs.Step.Laws as T′-Step
-use Rattle.answering.proofs.Told as T-Told
-use Rattle.answering.proofs.Told.Laws as T′-Told
+use Rattle.run_plain.specs.declared.State.{State}
+use Rattle.run_plain.proofs.State as T-State
+use Rattle.run_plain.proofs.State.Laws as T′-State
+use Rattle.run_plain.specs.declared.Said.{Said}
+use Rattle.run_plain.proofs.Said as T-Said
+use Rattle.run_plain.proofs.Said.Laws as T′-Said
+use Rattle.run_answer.specs.declared.Step.{Step}
+use Rattle.run_answer.proofs.Step as T-Step
+use Rattle.run_answer.proofs.Step.Laws as T′-Step
+use Rattle.run_answer.proofs.Told as T-Told
+use Rattle.run_answer.proofs.Told.Laws as T′-Told
 use Rattle.run.proofs.Said.{all-said, all-go, all-fit}
 use Rattle.run.proofs.Apart.{conj, tokens, out-at, in-at}
-use Rattle.answering.proofs.take as core
-use Rattle.answering.proofs.take.Symbol as core-def
-use Rattle.answering.proofs.take.Symbol.{name as #core}
-use Rattle.answering.proofs.take.Met as core-thm
-use Rattle.answering.proofs.note as note
-use Rattle.answering.proofs.note.Symbol as note-def
-use Rattle.answering.proofs.note.Symbol.{name as #note}
-use Rattle.answering.proofs.note.Met as note-thm
+use Rattle.run_answer.proofs.take as core
+use Rattle.run_answer.proofs.take.Symbol as core-def
+use Rattle.run_answer.proofs.take.Symbol.{name as #core}
+use Rattle.run_answer.proofs.take.Met as core-thm
+use Rattle.run_answer.proofs.note as note
+use Rattle.run_answer.proofs.note.Symbol as note-def
+use Rattle.run_answer.proofs.note.Symbol.{name as #note}
+use Rattle.run_answer.proofs.note.Met as note-thm
 use Rattle.run.proofs.answer.Key.{name as #self}
 use Rattle.run.proofs.answer as self′
 use Rattle.run.proofs.answer.Statement as stated
@@ -271,5 +271,5 @@ answer-spec 𝓤 H 𝓜 𝓖 𝓡 =
     entered 𝓤 H (tripleOf 𝓤 H (𝓖 .A) self′.signature (self′.spec 𝓤 H (𝓖 .A) (𝓜 .mem) (𝓡 .run)))
     (tables 𝓤 H 𝓜 𝓡 code.env .C) (tables 𝓤 H 𝓜 𝓡 code.env .Λ) #self code.function (code.unfolded 𝓤 H 𝓜 𝓡)
     (self-meets 𝓤 H (𝓖 .A) (givenOf 𝓤 H 𝓜 𝓖) (𝓜 .mem) (𝓡 .run) (tablesOf 𝓤 H 𝓜 (tables 𝓤 H 𝓜 𝓡 code.env))
-    (cited 𝓤 H (Core 𝓤 H (𝓖 .A) (𝓜 .mem) (𝓡 .run)) 𝓜 𝓡 code.env #core core-def.routine code.calls-answering·take (core-thm.met 𝓤 H 𝓜 𝓖 𝓡))
-    (cited 𝓤 H (Note 𝓤 H (𝓖 .A) (𝓜 .mem) (𝓡 .run)) 𝓜 𝓡 code.env #note note-def.routine code.calls-answering·note (note-thm.met 𝓤 H 𝓜 𝓖 𝓡)))
+    (cited 𝓤 H (Core 𝓤 H (𝓖 .A) (𝓜 .mem) (𝓡 .run)) 𝓜 𝓡 code.env #core core-def.routine code.calls-run-answer·take (core-thm.met 𝓤 H 𝓜 𝓖 𝓡))
+    (cited 𝓤 H (Note 𝓤 H (𝓖 .A) (𝓜 .mem) (𝓡 .run)) 𝓜 𝓡 code.env #note note-def.routine code.calls-run-answer·note (note-thm.met 𝓤 H 𝓜 𝓖 𝓡)))

@@ -41,26 +41,26 @@ use denote.Triple.Call.{calls-at}
 use denote.Triple.Clauses.{ensured, lasts, Lasts}
 use denote.Triple.Table.{entered, cited}
 use denote.Triple.Walked.{says, Stays, walkOf, goes-slice, Walks, ends-at, walked, walk-meets}
-use Rattle.opening.specs.Opens.{Opened as Core-Opened}
+use Rattle.run_open_checks.specs.Opens.{Opened as Core-Opened}
 use Rattle.run.proofs.Put.{left-so}
 use Rattle.topo.specs.declared.Iteration.{Iteration as Round}
 use Rattle.topo.proofs.Iteration as Ro
 use Rattle.topo.proofs.Iteration.Laws as Ro′
-use Rattle.plain.specs.declared.State.{State}
-use Rattle.plain.proofs.State as T-State
-use Rattle.plain.proofs.State.Laws as T′-State
+use Rattle.run_plain.specs.declared.State.{State}
+use Rattle.run_plain.proofs.State as T-State
+use Rattle.run_plain.proofs.State.Laws as T′-State
 use Rattle.topo.specs.declared.Goal.{Goal}
 use Rattle.topo.proofs.Goal as T-Goal
 use Rattle.topo.proofs.Goal.Laws as T′-Goal
-use Rattle.answering.specs.declared.Told.{Told}
-use Rattle.answering.proofs.Told as T-Told
-use Rattle.answering.proofs.Told.Laws as T′-Told
+use Rattle.run_answer.specs.declared.Told.{Told}
+use Rattle.run_answer.proofs.Told as T-Told
+use Rattle.run_answer.proofs.Told.Laws as T′-Told
 use Rattle.run.proofs.Said.{all-said, all-go, all-fit}
 use Rattle.run.proofs.Apart.{conj, tokens, out-at, in-at}
-use Rattle.opens.proofs.take as core
-use Rattle.opens.proofs.take.Symbol as core-def
-use Rattle.opens.proofs.take.Symbol.{name as #core}
-use Rattle.opens.proofs.take.Met as core-thm
+use Rattle.run_open.proofs.take as core
+use Rattle.run_open.proofs.take.Symbol as core-def
+use Rattle.run_open.proofs.take.Symbol.{name as #core}
+use Rattle.run_open.proofs.take.Met as core-thm
 use Rattle.run.proofs.«open».Key.{name as #self}
 use Rattle.run.proofs.«open» as self′
 use Rattle.run.proofs.«open».Statement as stated
@@ -239,4 +239,4 @@ open-spec 𝓤 H 𝓜 𝓖 𝓡 =
     entered 𝓤 H (tripleOf 𝓤 H (𝓖 .A) self′.signature (self′.spec 𝓤 H (𝓖 .A) (𝓜 .mem) (𝓡 .run)))
     (tables 𝓤 H 𝓜 𝓡 code.env .C) (tables 𝓤 H 𝓜 𝓡 code.env .Λ) #self code.function (code.unfolded 𝓤 H 𝓜 𝓡)
     (self-meets 𝓤 H (𝓖 .A) (givenOf 𝓤 H 𝓜 𝓖) (𝓜 .mem) (𝓡 .run) (tablesOf 𝓤 H 𝓜 (tables 𝓤 H 𝓜 𝓡 code.env))
-    (cited 𝓤 H (Core 𝓤 H (𝓖 .A) (𝓜 .mem) (𝓡 .run)) 𝓜 𝓡 code.env #core core-def.routine code.calls-opens·take (core-thm.met 𝓤 H 𝓜 𝓖 𝓡)))
+    (cited 𝓤 H (Core 𝓤 H (𝓖 .A) (𝓜 .mem) (𝓡 .run)) 𝓜 𝓡 code.env #core core-def.routine code.calls-run-open·take (core-thm.met 𝓤 H 𝓜 𝓖 𝓡)))

@@ -5,15 +5,15 @@ use mathlib.Core.List.{List}
 use mathlib.Core.Bool.{Bool, false}
 use lib.Ieee.{Float}
 use Rattle.topo.specs.declared.Goal.{Goal}
-use Rattle.report.proofs.Laws.{retext}
+use Rattle.shape_report.proofs.Laws.{retext}
 use Prim.Native.Nat.{ℕ, _+_, _≤_, min}
 use native.Mathlib.Omega.{arith}
 use lib.ListN.{length}
-use Rattle.plain.specs.Lent.{openWork, answerWork}
-use Rattle.report.specs.Steps.{Wrote}
-use Rattle.report.specs.Report.{textOf}
-use Rattle.printed.specs.Printed.{outcomeOf}
-use Rattle.job.specs.Job.{jobOf}
+use Rattle.run_plain.specs.Lent.{openWork, answerWork}
+use Rattle.shape_report.specs.Steps.{Wrote}
+use Rattle.shape_report.specs.Report.{textOf}
+use Rattle.shape_text.specs.Printed.{outcomeOf}
+use Rattle.shape_job.specs.Job.{jobOf}
 use Rattle.shape.specs.Shape.{lists, outcomeFrom}
 use lib.Seq.{length-take-le}
 use Rattle.shape.proofs.run.Statement.{statement}

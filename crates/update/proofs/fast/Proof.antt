@@ -2,7 +2,7 @@
 use mathlib.Core.Path.{sym, ap, _∙_}
 use denote.Ref.{now}
 use Rattle.oc.specs.declared.kept.Rule.{Rule}
-use Rattle.rates.specs.Rates.{given, firstRate, updated}
+use Rattle.update_rates.specs.Rates.{given, firstRate, updated}
 use Rattle.update.proofs.Same.{first-same, updated-same}
 use borrow.Author.Needs.{needs}
 use Rattle.update.proofs.fast.Statement.{statement}

@@ -1,0 +1,96 @@
+-- What the numbers stand for. 01: "For an answer that is an enum, a definition gives this paper's number and values for each case." Definitions only.
+use Prim.Native.Nat.{ℕ, _<_, _≤_}
+use mathlib.Core.Path.{_≡_}
+use lib.Dec.{eqb}
+use Rattle.lists.specs.Lists.{choose}
+use Rattle.topo.specs.declared.Iteration.{Iteration}
+use Rattle.topo.specs.declared.Stop.{Stop as Reason}
+use Rattle.topo.specs.declared.Stop.the-variants.{Settled, LevelledOff, Limit, Budget, Stopped}
+use Rattle.run_plain.specs.declared.Phase.{Phase}
+use Rattle.run_plain.specs.declared.Phase.the-variants.{Idle, Solid, Round}
+use Rattle.run_plain.specs.declared.Said.{Said}
+use Rattle.run_plain.specs.declared.Said.the-variants.{Gave, Failed, Halted}
+use Rattle.run_plain.specs.declared.Reply.{Reply}
+use Rattle.run_plain.specs.declared.Reply.the-variants.{Refused, Solid as SolidPart, Round as RoundPart, Stop}
+use Rattle.run_plain.specs.declared.State.{State}
+use Rattle.run_plain.specs.Calls.{Asked, Told as Given}
+use Rattle.run_answer.specs.declared.Told.{Told}
+use Rattle.run_answer.specs.declared.Step.{Step}
+use Rattle.run_answer.specs.Answers.{Core, Work, Answers}
+use Rattle.run_open_checks.specs.Opens.{Work as OpenWork, Opened}
+use Rattle.c_numbers.specs.declared.RunState.{RunState}
+use Rattle.c_numbers.specs.declared.RunTold.{RunTold}
+use Rattle.c_numbers.specs.declared.RunRecord.{RunRecord}
+use Rattle.c_numbers.specs.declared.RunStep.{RunStep}
+
+-- 0: no run is open. 1: the solid part is asked for. 2: a round is
+unfoldable pub phaseOf : ℕ → Phase
+phaseOf n = choose (eqb n 0) Idle (choose (eqb n 1) Solid Round)
+
+abbrev pub phaseNumber : Phase → ℕ
+phaseNumber Idle = 0
+phaseNumber Solid = 1
+phaseNumber Round = 2
+
+-- 0: the solver gave energies. 1: it failed. Else: it stopped
+unfoldable pub saidOf : ℕ → Said
+saidOf n = choose (eqb n 0) Gave (choose (eqb n 1) Failed Halted)
+
+unfoldable pub stateOf : RunState → State
+stateOf s = record { phase = phaseOf (s .phase); elements = s .elements; entries = s .entries; fraction = s .fraction; sharpen = s .sharpen; «max_iterations» = s .«max_iterations»; rounds = s .rounds; stage = s .stage; «at_stage» = s .«at_stage»; steady = s .steady; «solid_compliance» = s .«solid_compliance»; compliance = s .compliance }
+
+unfoldable pub stateNumbers : State → RunState
+stateNumbers s = record { phase = phaseNumber (s .phase); elements = s .elements; entries = s .entries; fraction = s .fraction; sharpen = s .sharpen; «max_iterations» = s .«max_iterations»; rounds = s .rounds; stage = s .stage; «at_stage» = s .«at_stage»; steady = s .steady; «solid_compliance» = s .«solid_compliance»; compliance = s .compliance }
+
+abbrev pub stopNumber : Reason → ℕ
+stopNumber Settled = 0
+stopNumber LevelledOff = 1
+stopNumber Limit = 2
+stopNumber Budget = 3
+stopNumber Stopped = 4
+
+abbrev pub replyKind : Reply → ℕ
+replyKind (Refused n) = 0
+replyKind SolidPart = 1
+replyKind (RoundPart n) = 2
+replyKind (Stop why) = 3
+
+-- a refusal's number, a round's, or a stop's
+abbrev pub replyNumber : Reply → ℕ
+replyNumber (Refused n) = n
+replyNumber SolidPart = 0
+replyNumber (RoundPart n) = n
+replyNumber (Stop why) = stopNumber why
+
+unfoldable pub toldNumbers : Told → RunTold
+toldNumbers t = record { state = stateNumbers (t .state); reply = replyKind (t .reply); number = replyNumber (t .reply) }
+
+unfoldable pub recordNumbers : Iteration → RunRecord
+recordNumbers i = record { number = i .number; compliance = i .compliance; fraction = i .fraction; change = i .change; sharpness = i .sharpness; grey = i .grey; passes = i .passes }
+
+unfoldable pub stepNumbers : Step → RunStep
+stepNumbers s = record { told = toldNumbers (s .told); at = s .at; entry = recordNumbers (s .entry) }
+
+-- 20 with the state as it came
+abbrev pub refused20 : RunState → RunTold
+refused20 s = record { state = s; reply = 0; number = 20 }
+
+-- an opening's numbers are those of what `Opened` says of it, and an answer's of what `Answers` says
+pub record OpenedIn (s : RunState) (g : Asked) (room : ℕ) (l : Core) (w : OpenWork) (r : RunTold) (o : Core) (w′ : OpenWork) : Type 0 where
+  pub told : Told
+  pub numbers : r ≡ toldNumbers told
+  pub opens : Opened (stateOf s) g room l w told o w′
+
+pub record AnsweredIn (s : RunState) (a : Given) (room : ℕ) (l : Core) (w : Work) (r : RunStep) (o : Core) (w′ : Work) : Type 0 where
+  pub step : Step
+  pub numbers : r ≡ stepNumbers step
+  pub answers : Answers (stateOf s) a room l w step o w′
+
+-- with a phase above 2, which no run has: 20, kept. An answer's record is then free, its place past the history's end
+pub record OpenedAs (s : RunState) (g : Asked) (room : ℕ) (l : Core) (w : OpenWork) (r : RunTold) (o : Core) (w′ : OpenWork) : Type 0 where
+  pub known : s .phase ≤ 2 → OpenedIn s g room l w r o w′
+  pub unknown : 2 < s .phase → (r ≡ refused20 s) × (o ≡ l) × (w′ ≡ w)
+
+pub record AnsweredAs (s : RunState) (a : Given) (room : ℕ) (l : Core) (w : Work) (r : RunStep) (o : Core) (w′ : Work) : Type 0 where
+  pub known : s .phase ≤ 2 → AnsweredIn s a room l w r o w′
+  pub unknown : 2 < s .phase → (r .told ≡ refused20 s) × (r .at ≡ room) × (o ≡ l) × (w′ ≡ w)

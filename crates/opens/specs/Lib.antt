@@ -1,2 +1,0 @@
--- `Steps` has what the steps of the code promise each other: what a caller must believe is said by `Opened` of crate `opening` alone.
-pub mod Steps

@@ -1,0 +1,35 @@
+-- A part at the front that is lent and given back: by the lengths of `take`, `drop` and `++`. Assumes nothing.
+use mathlib.Core.Path.{_≡_, refl, sym, ap, _∙_}
+use mathlib.Core.List.{List, [], _∷_, _++_}
+use Prim.Native.Nat.{ℕ, suc, _+_, _-_, _≤_}
+use native.Mathlib.Numerals.{add-one}
+use native.Mathlib.Omega.{arith}
+use lib.ListN.{length, take, drop, length-append, length-drop}
+use lib.Seq.{length-take-le}
+use lib.Ieee.{Float}
+use Rattle.lists.specs.Lists.{overlay}
+use Rattle.run_answer.specs.Answers.{Scratched}
+
+module _ {A : Type 0} where
+  -- n places at the front are n places
+  pub front : (n : ℕ) (l : List A) → n ≤ length l → n ≡ length (take n l)
+  front n l h = sym (length-take-le n l h)
+
+  -- a part of n places, laid over
+  pub laid : (n : ℕ) (ys new l : List A) → ys ≡ new → length ys ≡ n → ys ++ drop n l ≡ overlay new l
+  unfolding overlay
+  laid n ys new l e h = (λ i. e i ++ drop ((sym h ∙ ap length e) i) l)
+
+  drop-front : (ys l : List A) → drop (length ys) (ys ++ l) ≡ l
+  drop-front [] l = refl
+  drop-front (y ∷ ys) l = drop-front ys l
+
+  pub drop-laid : (n : ℕ) (ys l : List A) → length ys ≡ n → drop n (ys ++ drop n l) ≡ drop n l
+  drop-laid n ys l h = (λ i. drop (sym h i) (ys ++ drop n l)) ∙ drop-front ys (drop n l)
+
+pub scratched : (n : ℕ) (ys l : List Float) → length ys ≡ n → n ≤ length l → Scratched n l (ys ++ drop n l)
+scratched n ys l h b = record { long = length-append ys (drop n l) ∙ (λ i. h i + length-drop n l i) ∙ omega arith; rest = drop-laid n ys l h }
+
+-- one place more, as the code counts it
+pub take-one : {A : Type 0} (n : ℕ) (l : List A) → take (n + 1) l ≡ take (suc n) l
+take-one n l = ap (λ (k : ℕ). take k l) (add-one n)

@@ -1,0 +1,90 @@
+// Lists that are lent longer than needed: the round's calls on the needed places.
+ghost use mathlib.Core.Path.{_≡_};
+ghost use Prim.Native.Nat.{suc, _<_};
+ghost use lib.ListN.{take};
+ghost use Rattle.lists.specs.Lists.{choose, overlay};
+ghost use Rattle.oc.specs.Seen.{seenDensity};
+ghost use Rattle.oc.specs.declared.seen.Sharpness.the-variants.{Off, At};
+ghost use Rattle.run_plain.specs.Formulas.{sharpness};
+ghost use Rattle.run_plain.specs.Calls.{steepAt};
+ghost use Rattle.run_answer.specs.Answers.{Asks, Enough, Scratched, Solved};
+use run_plain::State;
+use topo::Iteration;
+
+// The densities of the next question, at a stage.
+pub fn ask(
+    state: State,
+    stage: usize,
+    passive: &[bool],
+    starts: &[u32],
+    near: &[u32],
+    coef: &[f64],
+    design: &[f64],
+    density: &mut [f64],
+    spare: &mut [f64],
+)
+    requires { ⌜ Asks state (now passive) (now starts) (now near) (now coef) (now design) (now density) (now spare) ⌝ }
+    ensures { λ _. ⌜ (now (density .exit) ≡ overlay (seenDensity (choose (state .sharpen) (At (sharpness (steepAt stage))) Off) (take (suc (state .elements)) (now (starts .entry))) (take (state .entries) (now (near .entry))) (take (state .entries) (now (coef .entry))) (take (state .elements) (now (passive .entry))) (take (state .elements) (now (design .entry)))) (now (density .entry)))
+        × Scratched (state .elements) (now (spare .entry)) (now (spare .exit)) ⌝ }
+{
+    let n = state.elements;
+    let e = state.entries;
+    run_round::ask(
+        state.sharpen,
+        stage,
+        &starts[..n + 1usize],
+        &near[..e],
+        &coef[..e],
+        &passive[..n],
+        &design[..n],
+        &mut density[..n],
+        &mut spare[..n],
+    );
+}
+
+// A round on the lists lent: its record; the design, and the densities asked for as those of the last record's round, are left. The last five
+// lists are for the call's own use.
+pub fn solve(
+    state: State,
+    energies: &[f64],
+    volumes: &[f64],
+    passive: &[bool],
+    starts: &[u32],
+    near: &[u32],
+    coef: &[f64],
+    density: &[f64],
+    design: &mut [f64],
+    last: &mut [f64],
+    free: &mut [f64],
+    slope: &mut [f64],
+    spare: &mut [f64],
+    dc: &mut [f64],
+    dv: &mut [f64],
+) -> Iteration
+    requires { ⌜ Enough state (now energies) (record { volumes = now volumes; passive = now passive; starts = now starts; near = now near; coef = now coef; design = now design; density = now density; last = now last }) (record { free = now free; slope = now slope; spare = now spare; dc = now dc; dv = now dv }) ⌝ }
+    requires { ⌜ (state .elements < 65536) × (state .rounds < state .«max_iterations») ⌝ }
+    ensures { λ r. ⌜ Solved state (now (energies .entry)) (record { volumes = now (volumes .entry); passive = now (passive .entry); starts = now (starts .entry); near = now (near .entry); coef = now (coef .entry); design = now (design .entry); density = now (density .entry); last = now (last .entry) }) (record { free = now (free .entry); slope = now (slope .entry); spare = now (spare .entry); dc = now (dc .entry); dv = now (dv .entry) }) r (now (design .exit)) (now (last .exit)) (record { free = now (free .exit); slope = now (slope .exit); spare = now (spare .exit); dc = now (dc .exit); dv = now (dv .exit) }) ⌝ }
+{
+    let n = state.elements;
+    let e = state.entries;
+    update_design::copy(&density[..n], &mut last[..n]);
+    run_round::solve(
+        state.rounds + 1usize,
+        state.stage,
+        state.fraction,
+        state.sharpen,
+        energies,
+        &volumes[..n],
+        &passive[..n],
+        &starts[..n + 1usize],
+        &near[..e],
+        &coef[..e],
+        &density[..n],
+        &mut design[..n],
+        &mut free[..n],
+        &mut slope[..n],
+        &mut spare[..n],
+        &mut dc[..n],
+        &mut dv[..n],
+    )
+}

@@ -1,0 +1,182 @@
+// The core of an opening: every list but the history, of which only the length counts.
+ghost use mathlib.Core.Path.{_≡_};
+ghost use Prim.Native.Nat.{_≤_, _<_};
+ghost use lib.ListN.{length, getD};
+ghost use Rattle.run_plain.specs.Calls.{inTurn};
+ghost use Rattle.run_open_checks.specs.Opens.{Opened};
+ghost use Rattle.run_open.specs.Steps.{Lastly};
+use run_answer::Told;
+use run_plain::Phase;
+use run_plain::Reply;
+use run_plain::State;
+use topo::Goal;
+
+// Whether no run is open.
+fn in_turn(p: Phase) -> bool
+    ensures { λ r. ⌜ r ≡ inTurn p ⌝ }
+{
+    match p {
+        Phase::Idle => true,
+        Phase::Solid => false,
+        Phase::Round => false,
+    }
+}
+
+// Where the last row ends.
+fn entries(n: usize, starts: &[u32]) -> usize
+    requires { ⌜ n < length (now starts) ⌝ }
+    ensures { λ r. ⌜ r ≡ getD (now (starts .entry)) n 0 ⌝ }
+{
+    starts[n] as usize
+}
+
+// The table is built, with so many entries: "Last it looks at the flag".
+fn lastly(
+    state: State,
+    goal: Goal,
+    flag: bool,
+    entries: usize,
+    volumes: &[f64],
+    passive: &[bool],
+    design: &mut [f64],
+    density: &mut [f64],
+    cell: &mut [[u64; 3]],
+    order: &mut [u32],
+    first: &mut [u32],
+    sorted: &mut [[f64; 3]],
+    stamp: &mut [u32],
+    weight: &mut [f64],
+    found: &mut [u32],
+    bits: &mut [u64],
+) -> Told
+    requires { ⌜ (length (now volumes) ≤ length (now density)) × (length (now passive) ≤ length (now design)) ⌝ }
+    ensures { λ r. ⌜ Lastly flag state goal entries (now (volumes .entry)) (now (passive .entry)) (now (design .entry)) (now (density .entry))
+        (record { cell = now (cell .entry); order = now (order .entry); first = now (first .entry); sorted = now (sorted .entry); stamp = now (stamp .entry); weight = now (weight .entry); found = now (found .entry); bits = now (bits .entry) })
+        r (now (design .exit)) (now (density .exit))
+        (record { cell = now (cell .exit); order = now (order .exit); first = now (first .exit); sorted = now (sorted .exit); stamp = now (stamp .exit); weight = now (weight .exit); found = now (found .exit); bits = now (bits .exit) }) ⌝ }
+{
+    if flag {
+        filter_build::wipe_work(cell, order, first, sorted, stamp, weight, found, bits);
+        return Told {
+            state: run_plain::ended(state),
+            reply: Reply::Refused(15),
+        };
+    }
+    run_open_checks::begin(goal, volumes, passive, design);
+    run_open_checks::ask_solid(volumes.len(), density);
+    Told {
+        state: run_open_checks::opened_state(goal, volumes.len(), entries),
+        reply: Reply::Solid,
+    }
+}
+
+// An opening, the history having room for so many records. The last eight lists are for the call's own use.
+pub fn take(
+    room: usize,
+    state: State,
+    goal: Goal,
+    flag: bool,
+    volumes: &[f64],
+    centroids: &[[f64; 3]],
+    passive: &[bool],
+    mirrors: &[[f64; 6]],
+    starts: &mut [u32],
+    near: &mut [u32],
+    coef: &mut [f64],
+    design: &mut [f64],
+    density: &mut [f64],
+    last: &[f64],
+    cell: &mut [[u64; 3]],
+    order: &mut [u32],
+    first: &mut [u32],
+    sorted: &mut [[f64; 3]],
+    stamp: &mut [u32],
+    weight: &mut [f64],
+    found: &mut [u32],
+    bits: &mut [u64],
+) -> Told
+    ensures { λ r. ⌜ Opened state (record { centroids = now (centroids .entry); mirrors = now (mirrors .entry); goal = goal; flag = flag }) room
+        (record { volumes = now (volumes .entry); passive = now (passive .entry); starts = now (starts .entry); near = now (near .entry); coef = now (coef .entry); design = now (design .entry); density = now (density .entry); last = now (last .entry) })
+        (record { cell = now (cell .entry); order = now (order .entry); first = now (first .entry); sorted = now (sorted .entry); stamp = now (stamp .entry); weight = now (weight .entry); found = now (found .entry); bits = now (bits .entry) })
+        r
+        (record { volumes = now (volumes .entry); passive = now (passive .entry); starts = now (starts .exit); near = now (near .exit); coef = now (coef .exit); design = now (design .exit); density = now (density .exit); last = now (last .entry) })
+        (record { cell = now (cell .exit); order = now (order .exit); first = now (first .exit); sorted = now (sorted .exit); stamp = now (stamp .exit); weight = now (weight .exit); found = now (found .exit); bits = now (bits .exit) }) ⌝ }
+{
+    let phase = state.phase;
+    if !in_turn(phase) {
+        return Told {
+            state,
+            reply: Reply::Refused(20),
+        };
+    }
+    let r = run_open_checks::refusal(
+        goal,
+        flag,
+        volumes,
+        centroids,
+        passive,
+        mirrors,
+        starts.len(),
+        near.len(),
+        coef.len(),
+        design.len(),
+        density.len(),
+        last.len(),
+        room,
+        cell.len(),
+        order.len(),
+        first.len(),
+        sorted.len(),
+        stamp.len(),
+        weight.len(),
+        found.len(),
+        bits.len(),
+    );
+    if r > 0 {
+        return Told {
+            state,
+            reply: Reply::Refused(r),
+        };
+    }
+    let b = filter_build::build(
+        centroids,
+        volumes,
+        goal.radius,
+        mirrors,
+        starts,
+        near,
+        coef,
+        cell,
+        order,
+        first,
+        sorted,
+        stamp,
+        weight,
+        found,
+        bits,
+    );
+    if b > 0 {
+        return Told {
+            state,
+            reply: Reply::Refused(b),
+        };
+    }
+    lastly(
+        state,
+        goal,
+        flag,
+        entries(volumes.len(), &starts[..]),
+        volumes,
+        passive,
+        design,
+        density,
+        cell,
+        order,
+        first,
+        sorted,
+        stamp,
+        weight,
+        found,
+        bits,
+    )
+}

@@ -1,0 +1,36 @@
+-- `run_round::ask` meets its contract: from what its calls give. Assumes nothing.
+use denote.Ref.{now}
+use lib.Ieee.{Float}
+use Rattle.lists.specs.Lists.{choose}
+use Rattle.oc.specs.declared.seen.Sharpness.{Sharpness}
+use Rattle.oc.specs.declared.seen.Sharpness.the-variants.{Off, At}
+use Rattle.oc.specs.Seen.{seenDensity}
+use mathlib.Core.Path.{ap, _∙_}
+use borrow.Author.Needs.{needs}
+use Rattle.run_round.proofs.ask.Statement.{statement}
+use Rattle.run_round.proofs.ask.Tie as tie
+
+sharpness-requires : tie.Need-sharpness-requires
+sharpness-requires c κs = search needs
+
+seen-at-requires : tie.Need-seen-at-requires
+seen-at-requires c κs = search needs
+
+see-requires : tie.Need-see-requires
+see-requires c κs = search needs
+
+same-length : tie.Need-same-length
+same-length c = search needs
+
+same-length-2 : tie.Need-same-length-2
+same-length-2 c = search needs
+
+returns : tie.Need-returns
+returns c = let a = c .before .before .before .before .before .before .before .before .before .before .before .before .before .before .before .before .args in
+    c .before .before .before .before .see .ensures .0
+    ∙ ap (λ (s : Sharpness). seenDensity s (now (a .starts)) (now (a .near)) (now (a .coef)) (now (a .passive)) (now (a .design))) (c .before .before .before .before .before .before .before .seen-at .ensures ∙ ap (λ (b : Float). choose (a .sharpen) (At b) Off) (c .before .before .before .before .before .before .before .before .sharpness .ensures))
+
+pub ask-spec : {M : Type 1} → statement M
+ask-spec =
+    tie.close
+    (tie.spec sharpness-requires seen-at-requires see-requires same-length same-length-2 returns)

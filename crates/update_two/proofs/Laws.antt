@@ -1,0 +1,57 @@
+-- The volume kept by what each element adds. Assumes nothing.
+use mathlib.Core.Path.{_≡_, refl, sym, ap, _∙_}
+use mathlib.Core.Bool.{Bool, false}
+use mathlib.Core.List.{List}
+use Prim.Native.Nat.{ℕ, zero, suc, _+_, _<_, min}
+use native.Mathlib.Omega.{arith}
+use lib.ListN.{length, getD}
+use lib.Ieee.{Float, nan, binary64, add, mul, div}
+use Rattle.lists.specs.Lists.{tabulate, foldTo, sumTo, choose}
+use Rattle.lists.proofs.Laws.{sumTo-more, getD-tabulate, length-tabulate}
+use Rattle.ieee.specs.Basic.{one64, clampOf}
+use Rattle.ieee.specs.Tanh.{tanhOf}
+use Rattle.filter_table.specs.Table.{rowSum, applied}
+use Rattle.oc.specs.declared.seen.Sharpness.the-variants.{At}
+use Rattle.oc.specs.Project.{belowOf, wholeOf, turned, projected}
+use Rattle.oc.specs.Record.{dot}
+use Rattle.oc.specs.Seen.{sharpened, elementDensity, densities, seenDensity}
+use Rattle.update_two.specs.Part.{bent, part}
+
+-- ---- one element
+module _ (beta : Float) (starts near : List ℕ) (coef volumes : List Float) (passive : List Bool) (y : List Float) where
+  abbrev sums : ℕ → Float
+  sums e = rowSum near coef y (getD starts e 0) (getD starts (e + 1) 0)
+
+  pub part-more : (e e' : ℕ) (below whole z t sum r : Float) → e' ≡ e + 1 → below ≡ belowOf beta → whole ≡ wholeOf beta → z ≡ bent beta (sums e) → t ≡ tanhOf z
+      → sum ≡ sumTo (part beta starts near coef volumes passive y) e
+      → r ≡ add binary64 sum (mul binary64 (getD volumes e nan) (choose (getD passive e false) one64 (div binary64 (add binary64 below t) whole)))
+      → r ≡ sumTo (part beta starts near coef volumes passive y) e'
+  unfolding bent part elementDensity sharpened projected turned
+  part-more e e' below whole z t sum r n b w k h s g =
+      let v : t ≡ turned beta (clampOf (sums e)) = h ∙ ap tanhOf k in
+      g ∙ (λ i. add binary64 (s i) (mul binary64 (getD volumes e nan) (choose (getD passive e false) one64 (div binary64 (add binary64 (b i) (v i)) (w i))))) ∙ sumTo-more (part beta starts near coef volumes passive y) e ∙ ap (sumTo (part beta starts near coef volumes passive y)) (sym n)
+
+  -- at an equal steepness
+  pub part-at : (b : Float) (n : ℕ) → b ≡ beta → sumTo (part b starts near coef volumes passive y) n ≡ sumTo (part beta starts near coef volumes passive y) n
+  part-at b n e = ap (λ (v : Float). sumTo (part v starts near coef volumes passive y) n) e
+
+  -- ---- all of them
+  sum-same : (u v : ℕ → Float) (n : ℕ) → ((k : ℕ) → k < n → u k ≡ v k) → sumTo u n ≡ sumTo v n
+  unfolding sumTo foldTo
+  sum-same u v zero h = refl
+  sum-same u v (suc n) h =
+      let t : sumTo u n ≡ sumTo v n = sum-same u v n (λ k l. h k (omega arith)) in
+      let s : u n ≡ v n = h n (omega arith) in
+      λ i. add binary64 (t i) (s i)
+
+  -- an element's density, by the list of the filtered values
+  abbrev seen : ℕ → Float
+  seen e = elementDensity (At beta) (getD passive e false) (getD (tabulate sums (length passive)) e nan)
+
+  pub parts-are : sumTo (part beta starts near coef volumes passive y) (min (length volumes) (length passive)) ≡ dot volumes (seenDensity (At beta) starts near coef passive y)
+  unfolding dot seenDensity densities applied part
+  parts-are =
+      let share : ℕ → Float = λ k. mul binary64 (getD volumes k nan) (getD (tabulate seen (length passive)) k nan) in
+      sum-same (part beta starts near coef volumes passive y) share (min (length volumes) (length passive))
+      (λ k h. ap (mul binary64 (getD volumes k nan)) (sym (getD-tabulate seen (length passive) k nan (omega arith) ∙ ap (elementDensity (At beta) (getD passive k false)) (getD-tabulate sums (length passive) k nan (omega arith)))))
+      ∙ ap (λ (n : ℕ). sumTo share (min (length volumes) n)) (sym (length-tabulate seen (length passive)))
