@@ -111,18 +111,23 @@ impl Kept {
         k
     }
 
-    /// Eleven triangles of the kept set; the others are of no set.
+    /// One triangle of the kept set, and a middle that it does not mark though it is within the depth: it lies two cells away.
     fn at_an_edge(g: &mut Gen) -> Kept {
-        let (corners, middles, depth) = cell_edge(g, 11, TETS);
-        let nodes: Vec<Point> = corners.into_iter().flatten().chain(middles).collect();
-        let tris = std::array::from_fn(|t| [0, 1, 2, 0, 1, 2].map(|k| 3 * (t as u32 % 11) + k));
-        // One node is all corners of a tetrahedron, so that its middle is there.
-        let tets = std::array::from_fn(|e| [33 + e as u32; 10]);
-        let mut k =
-            Kept::of(g, nodes.try_into().expect("33 corners and 12 middles"), tets, tris, std::array::from_fn(|t| u32::from(t < 11)));
-        (k.held, k.loaded) = ([u32::MAX; 2], [u32::MAX; 2]);
-        (k.kept, k.depths) = ([1, 2, 3, 4], [depth, f64::NAN]);
-        k
+        loop {
+            let (corners, middles, depth) = cell_edge(g, 11, TETS);
+            if !middles.iter().any(|p| apart(corners[0], *p, depth)) {
+                continue;
+            }
+            let nodes: Vec<Point> = corners.into_iter().flatten().chain(middles).collect();
+            let tris = std::array::from_fn(|t| [0, 1, 2, 0, 1, 2].map(|k| 3 * (t as u32 % 11) + k));
+            // One node is all corners of a tetrahedron, so that its middle is there.
+            let tets = std::array::from_fn(|e| [33 + e as u32; 10]);
+            let surfaces = std::array::from_fn(|t| u32::from(t == 0));
+            let mut k = Kept::of(g, nodes.try_into().expect("33 corners and 12 middles"), tets, tris, surfaces);
+            (k.held, k.loaded) = ([u32::MAX; 2], [u32::MAX; 2]);
+            (k.kept, k.depths) = ([1, 2, 3, 4], [depth, f64::NAN]);
+            return k;
+        }
     }
 
     /// The surfaces of a set.
@@ -168,6 +173,18 @@ impl Kept {
         let sets = [0, 1].map(|s| (self.set(s).to_vec(), Some(self.depths[s])));
         region::passive(&problem, &sets).try_into().expect("one an element")
     }
+}
+
+/// Whether a point is within the depth of a triangle, and their cells lie two apart along some axis.
+fn apart(corners: [Point; 3], p: Point, depth: f64) -> bool {
+    let [a, b, c] = corners.map(vector);
+    let cell = [a.dist(b), b.dist(c), c.dist(a)].into_iter().fold(depth, f64::max);
+    let key = |v: f64| (v / cell).floor();
+    let far = |k: usize| {
+        let along = corners.map(|c| key(c[k]));
+        key(p[k]) - along.into_iter().fold(f64::MIN, f64::max) > 1.0 || along.into_iter().fold(f64::MAX, f64::min) - key(p[k]) > 1.0
+    };
+    dist2_to_triangle(vector(p), a, b, c) <= depth * depth && (0..3).any(far)
 }
 
 const POINTS: usize = 30;
