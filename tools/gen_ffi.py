@@ -6,7 +6,8 @@
 
 Reads every `#[no_mangle] pub extern "C" fn` of crates/capi/src and the `#[repr(C)]` structs that these name, wherever in crates/
 they stand. It knows the forms that an exported function may have: numbers, bool, such structs by value, & and &mut of a number or
-an array, and slices, which are a pointer and a count of elements. Any other form is an error.
+an array, and slices, which are a pointer and a count of elements. Any other form is an error. The header's comment on refusals is
+the section "Refusals" of docs/API.md.
 """
 import pathlib
 import re
@@ -16,6 +17,7 @@ import textwrap
 ROOT = pathlib.Path(__file__).resolve().parent.parent
 HEADER = ROOT / "bindings/include/sokdrib.h"
 DECLARATIONS = ROOT / "bindings/src/ffi.rs"
+REFUSALS = ROOT / "docs/API.md"
 
 # a Rattle number: its C type and its size
 NUMBERS = {
@@ -197,11 +199,32 @@ def c_comment(lines):
     return ["/* " + "\n * ".join(lines) + " */"] if lines else []
 
 
+def refusals():
+    """The section "Refusals" of docs/API.md as the lines of a comment: its table has the numbers 0 to 22, each once."""
+    plain = REFUSALS.read_text(encoding="utf-8").translate({ord("`"): "", ord("·"): "*", ord("−"): "-", ord("≥"): ">="})
+    section = re.search(r"^## Refusals\n\n(.*?)^## ", plain, re.S | re.M)
+    if not section:
+        fail("docs/API.md has no section Refusals")
+    out, numbers = ["Refusals.", ""], []
+    for line in section[1].rstrip().splitlines():
+        cells = [cell.strip() for cell in line.strip("|").split("|")]
+        if not line.startswith("|"):
+            out.append(line)
+        elif cells[0].isdigit():
+            numbers.append(int(cells[0]))
+            number, why, left, by = cells
+            out += textwrap.wrap(f"{why}. Left: {left}. By: {by}.", 116, initial_indent=f"{number:>4}  ", subsequent_indent=" " * 6)
+    if numbers != list(range(23)):
+        fail("the table of refusals in docs/API.md has not the numbers 0 to 22, each once and in order")
+    return ["/* " + "\n".join([out[0]] + [f" * {line}".rstrip() for line in out[1:]]) + " */"]
+
+
 def header(functions):
     out = [
-        "/* Written by tools/gen_ffi.py from the sources of crate capi: change those, and run it.",
+        "/* Written by tools/gen_ffi.py from the sources of crate capi and from docs/API.md: change those, and run it.",
         " * A slice is two parameters, a pointer and a count of elements; an empty one may be null. A bool is one byte, 0 or 1.",
         " * A list that may be written overlaps no other list. */",
+        *refusals(),
         "#ifndef SOKDRIB_H", "#define SOKDRIB_H", "", "#include <stdbool.h>", "#include <stddef.h>", "#include <stdint.h>", "",
         "#ifdef __cplusplus", 'extern "C" {', "#endif", "",
     ]
@@ -286,7 +309,7 @@ def main():
             file.parent.mkdir(parents=True, exist_ok=True)
             file.write_text(text, encoding="utf-8")
     if stale:
-        fail(f"not what crate capi exports now: {', '.join(stale)}; run tools/gen_ffi.py")
+        fail(f"not what crate capi exports, or not the refusals of docs/API.md: {', '.join(stale)}; run tools/gen_ffi.py")
     print(f"gen_ffi: {len(functions)} functions, {len(in_order(functions))} structs, {'as committed' if sys.argv[1:] else 'written'}")
 
 

@@ -1,6 +1,58 @@
-/* Written by tools/gen_ffi.py from the sources of crate capi: change those, and run it.
+/* Written by tools/gen_ffi.py from the sources of crate capi and from docs/API.md: change those, and run it.
  * A slice is two parameters, a pointer and a count of elements; an empty one may be null. A bool is one byte, 0 or 1.
  * A list that may be written overlaps no other list. */
+/* Refusals.
+ *
+ * A call that refuses hands back a number and no words: document 01, "What a refusal hands back". In C it is the result,
+ * its field refused or refusal, or with reply 0 its field number; in Rust it is Err(Refused(number)). What is left is
+ *
+ * - kept: the state and every list are as before. The same call may be made again with what was wrong put right; where it
+ *   was an answer, its question still stands.
+ * - zeroed: starts, near, coef and the eight working lists cell to bits are zero to their ends; the state, with no
+ *   run open, and every other list are as before. It may be opened again with more places (14) or a smaller radius (13).
+ * - over: every list is as before, and the state is ended: later answers get 20, and another run may be opened on it. The
+ *   records made till then stand in the history. An opening's 15 leaves the finished filter in its lists and the working
+ *   lists cell to bits zero, and every other list as before.
+ *
+ *    0  nothing is refused. Left: the call's results. By: filter_build, parts of a round, mesh calls; open and answer
+ *       reply with what follows instead.
+ *    1  volumes, middles and marks differ in count; in a part of a round: any lists that are read. Left: kept. By:
+ *       open, filter_build, parts of a round.
+ *    2  no elements. Left: kept. By: open, filter_build.
+ *    3  more than 65,535 elements or triangles, or than 1,048,576 nodes. Left: kept. By: open, filter_build, mesh
+ *       calls.
+ *    4  a volume not above 0, or above 10^20. Left: kept. By: open, filter_build.
+ *    5  share (fraction) not above 0 and below 1. Left: kept. By: open.
+ *    6  no rounds allowed (max_iterations is 0). Left: kept. By: open.
+ *    7  no room beside what is held: held + 0.001*(total - held) >= share*total. Left: kept. By: open.
+ *    8  radius, or a depth that is finite and above 0, not from 0.001 to 1,000,000. Left: kept. By: open,
+ *       filter_build; of a depth passive.
+ *    9  a coordinate of a middle or node not finite, or above 1,000,000 in size. Left: kept. By: open, filter_build,
+ *       mesh calls.
+ *   10  more than three planes. Left: kept. By: open, filter_build.
+ *   11  a coordinate of a plane's point or normal not finite, or above 1,000,000 in size, or a normal not longer than
+ *       1e-12. Left: kept. By: open, filter_build, asymmetry, off_centre.
+ *   12  planes not square: the dot of two normals, made of length 1, above 1e-9 in size. Left: kept. By: open,
+ *       filter_build.
+ *   13  a table above 512 MB: at row e (from 0) 4*(e+2) + 12*entries > 536,870,912, entries counted over rows 0 to e.
+ *       Left: zeroed. By: open, filter_build.
+ *   14  a list shorter than needed, or fewer records (room) than rounds allowed. Left: kept; zeroed where a row of the
+ *       filter has no room in near or coef. By: open, filter_build, answer, parts of a round, mesh calls but
+ *       off_centre; strip::read, program shape.
+ *   15  stopped before any record, by the flag or by the solver. Left: over. By: open, answer.
+ *   16  energies not one an element. Left: over. By: answer.
+ *   17  an energy not finite. Left: over. By: answer.
+ *   18  the solver failed. Left: over. By: answer.
+ *   19  the solid part's work not above 0. Left: over. By: answer.
+ *   20  call out of turn, or a state that no run has ("A run", docs/API.md). Left: kept. By: open, answer.
+ *   21  a boundary triangle names a node that is not there. Left: kept. By: passive, asymmetry.
+ *   22  the job strip is malformed. Left: kept. By: the calls of strip, program shape: none of C's.
+ *
+ * Where several apply, the first of these is given. open: 20, 1 to 12, 14; row by row 13, 14; last 15. filter_build: the
+ * same without 20, 5, 6, 7 and 15. answer: 20, 14; 15 or 18 as the solver said; 16, 17, 19, last 15. Mesh calls (design,
+ * block, passive, asymmetry, off_centre): those that they have of 3, 21, 9, 11, 8, 14. Parts of a round (start, see,
+ * work_slope, volume_slope, kept, update): 1, 14. A strip: 22, 14. Every other call is a leaf or works with whatever it
+ * is given, and refuses nothing. */
 #ifndef SOKDRIB_H
 #define SOKDRIB_H
 

@@ -14,7 +14,7 @@ pub mod run;
 pub mod table;
 pub mod topo;
 
-/// The number of a refusal: document 01, "What a refusal hands back".
+/// The number of a refusal: document 01, "What a refusal hands back"; docs/API.md, "Refusals", has their table.
 #[derive(Clone, Copy, Debug, PartialEq, Eq)]
 pub struct Refused(pub u32);
 
