@@ -1,46 +1,188 @@
 #!/usr/bin/env python3
-"""Holds docs/CLAIMS.md to the sources: each edit that it names is there, and each edit that is there is named; each contract, theorem, definition and
-file that it names is there. An edit's label is that of no other, and its first line says which sentence it breaks.
+"""Holds docs/CLAIMS.md, and the names in the other documents, to the sources and to docs/01-scope.md.
 
-    tools/claims.py
+    tools/claims.py            checks, and that docs/SENTENCES.md is current
+    tools/claims.py --write    writes docs/SENTENCES.md
+
+1. A path `crate::f`, `crate::module::f` or `Type::method` is defined there. A name that follows a path after a comma is of the same module or type.
+2. A name beside a file, as in `f`, `g` (crates/c/specs/X.antt), is defined in that file: declared, not mentioned. Of several files each has one of the
+   names, and each name is in one of them. A file is given from the root, or within a crate that the row names; then just one of these has it.
+3. In docs/CLAIMS.md any other name is in WORDS, or defined in just one file of the crates that its row names (of specs/, if it is there at all). A row names
+   a crate as crates/NAME or by a path.
+4. An edit stands in a row, and each row that it stands in names its crate. Its label is no other's, and its first line is the sentence that it breaks.
+5. Each word of 01 is quoted: in docs/CLAIMS.md, at a definition in specs/, or in docs/DECISIONS.md; or its sentence is in NO_CLAIM. Markup, capitals
+   and line ends do not count; [..] stands for words left out, which want a quote of their own.
+6. What a row quotes is 01's, or a demand's, and then it says so. Where comments in specs/ quote the same, the row names one of the definitions they stand at.
 """
-import pathlib
 import re
 import sys
 
-root = pathlib.Path(__file__).resolve().parent.parent
-paths = sorted(root.glob("crates/*/must-fail/*.edit"))
-edits = {p.stem for p in paths}
-crates = [p for p in root.glob("crates/*/") if p.is_dir()]
-sources = [p for c in crates for d in ("src", "specs", "proofs") for p in (c / d).rglob("*") if p.suffix in (".rt", ".antt")]
-words = {c.name for c in crates}
-for p in sources:
-    words |= set(re.findall(r"[^\W\d][\w-]*", p.read_text(encoding="utf-8")))
-ends = {tuple(p.relative_to(root).parts[k:]) for p in sources for k in range(5)}
+sys.dont_write_bytecode = True
+from sources import SIGNS, Scope, comments, crates, defined, names_of, place, quotes, read, root, short, tokens
+
+# Names that no source of ours defines, and why they may stand in a document.
+WORDS = {
+    "requires": "a word of the language",
+    "u64": "a type of the language",
+    "toBits": "of the kit's floats",
+    "ofBits": "of the kit's floats",
+    "optimize": "the Rust's: here a run",
+    "Stop::word": "the Rust's, left out",
+}
+
+# Sentences of 01, by their beginnings, of which nothing is claimed, and why.
+NO_CLAIM = {
+    "We read the code": "says what its readers do",
+    "A line marked (02)": "of a later request",
+    '"Keep the moduli of all 1,001 levels': "of a later request: marked (02)",
+    "Although the proofs for these places": "leads to the entry below it",
+}
+
+FILE = r"[\w./+-]+\.(?:antt|rt)\b"
+JOINED = {", ", " and ", ", and ", " ≡ ", " or "}
 
 
-def stands(name):
-    """Whether a name in backquotes is that of a file of the repository, or each of its parts is a word of a source."""
-    if "/" in name:
-        return (root / name).exists()
-    return all(w in words for w in re.findall(r"[^\W\d][\w-]*", name))
+def blocks(text):
+    """The rows of tables, as cells, and the paragraphs; no headings."""
+    text = re.sub(r"^#.*$|^\|.*\|\n\|---.*\|$", "", text, flags=re.M)
+    for part in re.split(r"\n\s*\n|\n(?=\|)|(?<=\|)\n", text.strip()):
+        yield [c.strip() for c in part.strip().strip("|").split(" | ")] if part.startswith("|") else [part]
 
 
-faults, named = [], set()
-for line in (root / "docs/CLAIMS.md").read_text(encoding="utf-8").splitlines():
-    cells = line.strip().strip("|").split("|")
-    if not line.startswith("|") or len(cells) not in (2, 3):
-        continue
-    if len(cells) == 3:
-        named |= set(re.findall(r"[a-z][a-z0-9]*(?:_[a-z0-9]+)+", cells[2]))
-    faults += [f"names `{n}`, which stands in no source" for n in re.findall(r"`([^`]+)`", cells[1]) if not stands(n)]
-    files = re.findall(r"[\w./+-]+\.(?:antt|rt)\b", cells[1])
-    faults += [f"names {f}, and there is no such file" for f in files if tuple(f.split("/")) not in ends]
-faults += [f"names {label}, and there is no such edit" for label in sorted(named - edits)]
-faults += [f"does not name the edit {label}" for label in sorted(edits - named)]
-faults = ["docs/CLAIMS.md " + f for f in faults]
-faults += [f"{p.relative_to(root)} has the label of {q.relative_to(root)}" for p in paths for q in paths if q < p and q.stem == p.stem]
-faults += [f"{p.relative_to(root)} does not begin with the sentence that it breaks" for p in paths if not p.read_text(encoding="utf-8").startswith("# ")]
-for fault in faults:
-    print(fault)
-sys.exit(1 if faults else 0)
+def crates_in(text):
+    paths = re.findall(r"`(\w+(?:::\w+)+)", text)
+    return {c for c in re.findall(r"crates/(\w+)", text) + [f.split("/")[1] for p in paths for f in place(p)[0]] if c in crates}
+
+
+def groups(text):
+    """Names and the files beside them: [([(what stands before it, name)], [file])]."""
+    parts = re.split(f"(`[^`]+`|{FILE})", text)
+    runs = []
+    for before, token in zip(parts[::2], parts[1::2]):
+        if not (runs and before in JOINED and (runs[-1][-1][1][0] == "`") == (token[0] == "`")):
+            runs.append([])
+        runs[-1].append((before, token))
+    while runs:
+        names, files = runs.pop(0), []
+        if names[0][1][0] != "`":
+            names, files = [], names
+        if names and runs and runs[0][0][1][0] != "`" and runs[0][0][0] in (" (", ", ", ": ", " of "):
+            files = runs.pop(0)
+        elif files and runs and runs[0][0][1][0] == "`" and runs[0][0][0] == ": ":
+            names = runs.pop(0)
+        yield [(before, name.strip("`")) for before, name in names], [file for _, file in files]
+
+
+def told(text, named, strict):
+    """The names that a text tells: each as it is told, as it is defined, and the files of which one must define it. And faults. If not strict, names
+    with neither path nor file, and paths of what is not ours, are passed over."""
+    names, faults = [], []
+    for run, files in groups(text):
+        at, beside, owner = [], [], None
+        for file in files:
+            meant = [file] if file in defined else [f for f in defined if f.split("/")[1] in named and f.endswith("/" + file)]
+            at += meant[:1]
+            if len(meant) != 1:
+                faults.append(f"{file} is {'several files' if meant else 'no file'} of the crates that are named")
+        for before, name in run:
+            owner = None if before == " ≡ " else owner
+            name = re.sub(r"\(.*\)$", "", name)
+            if (root / name.split(" ")[0]).exists() or name in WORDS or name in crates and not at or name.startswith("crates/NAME/"):
+                continue
+            if re.fullmatch(r"\w+(::(\w+|\*|\.\.))+", name) or owner and re.fullmatch(r"\w+", name):
+                path = name if "::" in name else f"{owner}::{name}"
+                owner = path.rsplit("::", 1)[0]
+                path = re.sub(r"::(\*|\.\.)$", "", path)
+                if path not in crates and (strict or any(path.split("::")[0] in names_of[c] | {c} for c in crates)):
+                    names.append((path, *reversed(place(path))))
+            elif at:
+                beside.append(name.split(" ")[0])
+            elif strict:
+                homes = [f for f in defined if f.split("/")[1] in named and name in defined[f]]
+                homes = [f for f in homes if "/specs/" in f] or homes
+                names.append((name, name, homes[:1]))
+                faults += [f"`{name}` wants its file: one of {', '.join(homes)}"] if len(homes) > 1 else []
+        names += [(name, name, at) for name in beside]
+        faults += [f"{f} defines none of the names beside it" for f in at if beside and not defined[f] & set(beside)]
+    for name, item, files in names:
+        if not any(item in defined[f] for f in files):
+            faults.append(f"`{name}` is not defined in {', '.join(files) or 'a crate that is named'}")
+    return names, faults
+
+
+def index(scope):
+    """docs/SENTENCES.md."""
+    lines = ["# Sentences: what says each sentence of document 01", "",
+             "Written by `tools/claims.py --write` from docs/01-scope.md, the rows of docs/CLAIMS.md and the comments in crates/*/specs that quote it. A definition",
+             "is what a contract cites, code the function whose contract it is, a theorem what is proved of them. docs/CLAIMS.md has the edits that try each."]
+    above = ""
+    for heading, sentence, start, end in scope.spans:
+        lines += ["", f"## {heading}", ""] if heading != above else []
+        above = heading
+        lines.append(f"- {sentence}")
+        lines += [f"  - no claim: {why}" for begins, why in NO_CLAIM.items() if sentence.startswith(begins)]
+        found = {source for by in scope.by[start:end] for source in by}
+        for kind, title in (("specs", "definitions"), ("src", "code"), ("proofs", "theorems")):
+            files = {}
+            for file, item in sorted({d for source in found if type(source) is tuple for d in source if d[0].split("/")[2] == kind}):
+                files.setdefault(file, []).append(item)
+            said = [", ".join(f"`{item}`" for item in items if item) + f" ({file})" for file, items in files.items()]
+            lines += [f"  - {title}: " + "; ".join(said).replace("; (", "; (the head of ")] if said else []
+        lines += [f"  - {note}" for note in sorted(s for s in found if type(s) is str)]
+    return "\n".join(lines) + "\n"
+
+
+def main():
+    faults, labels, tried, scope, spec = [], {}, set(), Scope(), Scope()
+    whole = " ".join(tokens(read("docs/01-scope.md")))
+    for p in sorted(root.glob("crates/*/must-fail/*.edit")):
+        if p.stem in labels:
+            faults.append(f"{p.relative_to(root)} has the label of an edit of {labels[p.stem]}")
+        if not p.read_text(encoding="utf-8").startswith("# "):
+            faults.append(f"{p.relative_to(root)} does not begin with the sentence that it breaks")
+        labels[p.stem] = p.parts[-3]
+    for file in defined:
+        for comment, name in comments(read(file)) if re.match(r"crates/\w+/specs/.*antt$", file) else []:
+            for _, parts in quotes(comment):
+                scope.note(parts, ((file, name or ""),))
+                if name:
+                    spec.note(parts, (file, name))
+    for cells in blocks(read("docs/CLAIMS.md")):
+        text, at = " | ".join(cells), crates_in(" | ".join(cells))
+        names, wrong = told(cells[1] if len(cells) > 1 else text, at, True)
+        for label in re.findall(r"\w+", cells[2]) if len(cells) == 3 else []:
+            tried.add(label)
+            if labels.get(label) not in at:
+                wrong.append(f"{label} is an edit of {labels[label]}, which the row does not name" if label in labels else f"there is no edit {label}")
+        where = {(f, item) for _, item, files in names for f in files if item in defined[f]}
+        said = set()
+        for quote, parts in quotes(cells[0]) if len(cells) > 1 else []:
+            scope.note(parts, tuple(sorted(where)) or cells[1])
+            said |= {d for i in scope.quoted(parts) for d in spec.by[i] if not short(parts)}
+            if "demand" not in cells[0] and not scope.quoted(parts) and " ".join(tokens(quote)) not in whole:
+                wrong.append(f'"{quote}" is not in docs/01-scope.md')
+        if said and not said & where:
+            wrong.append("its sentence is quoted at " + ", ".join(f"`{name}` ({file})" for file, name in sorted(said)) + ", none of which it names")
+        faults += ["docs/CLAIMS.md, " + text[:70].replace("\n", " ") + "..: " + w for w in wrong]
+    faults += [f"docs/CLAIMS.md does not name the edit {label} of {labels[label]}" for label in sorted(set(labels) - tried)]
+    for _, parts in quotes(read("docs/DECISIONS.md")):
+        scope.note(parts, "docs/DECISIONS.md")
+    for _, sentence, start, end in scope.spans:
+        bare = [scope.words[i] for i in range(start, end) if not scope.by[i] and scope.words[i] not in SIGNS]
+        if bare and not any(sentence.startswith(begins) for begins in NO_CLAIM):
+            faults.append(f"docs/01-scope.md, {sentence}: quoted nowhere: {' '.join(bare)}")
+    for doc in ("README.md", "docs/API.md", "docs/DECISIONS.md", "docs/DIFFERENCES.md", "docs/REPLAY.md", "docs/SPEED.md"):
+        for cells in blocks(read(doc)):
+            text = " | ".join(cells)
+            faults += [f"{doc}, {text[:70]}..: {w}" for w in told(text, crates_in(text), False)[1]]
+    if sys.argv[1:] == ["--write"]:
+        (root / "docs/SENTENCES.md").write_text(index(scope), encoding="utf-8")
+    elif not (root / "docs/SENTENCES.md").exists() or read("docs/SENTENCES.md") != index(scope):
+        faults.append("docs/SENTENCES.md is not current: tools/claims.py --write")
+    for fault in faults:
+        print(fault)
+    return 1 if faults else 0
+
+
+if __name__ == "__main__":
+    sys.exit(main())
