@@ -1,4 +1,4 @@
-"""What tools/claims.py reads: what the sources define, what the comments in specs/ quote, and the sentences of docs/01-scope.md."""
+"""What tools/claims.py reads: what the sources define, what comments in specs/ quote, the sentences of 01."""
 import pathlib
 import re
 
@@ -18,7 +18,7 @@ def declared(line):
 
 
 def antt(text):
-    """Declarations, records with their fields, data with their constructors; not what stands in the `where` of a proof."""
+    """Declarations, records with fields, data with constructors; not what stands in the `where` of a proof."""
     names, data = set(), None
     for line in text.splitlines():
         indent = len(line) - len(line.lstrip())
@@ -33,7 +33,7 @@ def antt(text):
 
 
 def rt(text):
-    """Functions, types, constants, modules; fields and variants, alone and behind their type's name; methods behind it."""
+    """Functions, types, constants, modules; fields and variants, alone and behind their type; methods behind it."""
     names, kind, of = set(), "", ""
     for line in text.splitlines():
         m = re.match(r'(\s*)(?:pub )?(?:extern "C" )?(fn|struct|enum|const|mod|impl) (\w+)', line)
@@ -58,7 +58,7 @@ names_of = {c: set().union(*(names for f, names in defined.items() if f.startswi
 
 
 def place(path):
-    """The files that a path may mean, and the name that one of them must have: `crate::f`, `crate::module::f`, `Type::method`."""
+    """The files that a path may mean, `crate::f`, `crate::module::f` or `Type::method`, and the name there."""
     head, *rest = path.split("::")
     if head not in crates:
         return [f for f in defined if f.endswith(".rt") and path in defined[f]], path
@@ -70,7 +70,7 @@ def place(path):
 # ---- sentences and quotes
 
 def sentences():
-    """01's sentences, as (heading, sentence). A row of its table and its code are one each; the bold name of a file is none."""
+    """01's sentences, as (heading, sentence). A row of its table is one, and its code; a file's bold name is none."""
     heading, code = "", None
     for line in read("docs/01-scope.md").splitlines():
         if line.startswith("```"):
@@ -110,14 +110,19 @@ def short(parts):
     return sum(word not in SIGNS for part in parts for word in part) < 4
 
 
+def quoted(quote):
+    """A quote in parts, between which words are left out."""
+    return [p for p in map(trimmed, map(tokens, quote.split("[..]"))) if p]
+
+
 def quotes(text):
-    """What stands between double quotes, in parts between which words are left out; a number of 01's table goes with what follows it."""
+    """What stands between double quotes, also in parts; a number of 01's table goes with what follows it."""
     for number, quote in re.findall(r'((?:\b\d+, [a-z, ]+: )?)"([^"]+)"', text):
-        yield number + quote, [p for p in map(trimmed, map(tokens, re.split(r"\[\.\.\]", number + quote))) if p]
+        yield number + quote, quoted(number + quote)
 
 
 def comments(text):
-    """The comments of a .antt file, each with the name that it stands before; a heading, and what stands before no name, with none."""
+    """The comments of a .antt file, each with the name that it stands before, if any; headings with none."""
     lines = []
     for line in text.splitlines():
         if line.strip().startswith("-- ----"):
@@ -143,7 +148,7 @@ class Scope:
         for i, word in enumerate(self.words):
             self.places.setdefault(word, []).append(i)
 
-    def find(self, part, start, end):
+    def places_of(self, part, start, end):
         return [i for i in self.places.get(part[0], []) if start <= i < end and self.words[i:i + len(part)] == part]
 
     def whole(self, start, end):
@@ -151,17 +156,17 @@ class Scope:
         ends = {0, *(e for _, _, _, e in self.spans)}
         return (start in ends or self.words[start - 1] in ".:;") and (end in ends or self.words[end] in ".:;")
 
-    def quoted(self, parts):
-        """The words that a quote stands for, wherever it stands; a short one counts where it is a sentence or a clause."""
+    def find(self, parts):
+        """The words that a quote stands for, wherever it stands; a short one where it is a sentence or a clause."""
         found = []
-        for first in self.find(parts[0], 0, len(self.words)) if parts else []:
+        for first in self.places_of(parts[0], 0, len(self.words)) if parts else []:
             places = [first]
             for before, part in zip(parts, parts[1:]):
-                places += self.find(part, places[-1] + len(before), places[-1] + len(before) + 60)[:1]
+                places += self.places_of(part, places[-1] + len(before), places[-1] + len(before) + 60)[:1]
             if len(places) == len(parts) and (not short(parts) or self.whole(first, places[-1] + len(parts[-1]))):
                 found += [k for i, part in zip(places, parts) for k in range(i, i + len(part))]
         return found
 
     def note(self, parts, source):
-        for i in self.quoted(parts):
+        for i in self.find(parts):
             self.by[i].add(source)
