@@ -43,7 +43,7 @@ NO_CLAIM = {
     "Although the proofs for these places": "leads to the entry below it",
 }
 
-OTHERS = ("README.md", "docs/API.md", "docs/DECISIONS.md", "docs/DIFFERENCES.md", "docs/REPLAY.md", "docs/SPEED.md")
+OTHERS = ("README.md", "docs/API.md", "docs/GLOSSARY.md", "docs/TRUST.md", "docs/MAINTAINING.md", "docs/DECISIONS.md", "docs/DIFFERENCES.md", "docs/REPLAY.md", "docs/SPEED.md")
 FILE = r"[\w./+-]+\.(?:antt|rt)\b"
 JOINED = {", ", " and ", ", and ", " ≡ ", " or "}
 
