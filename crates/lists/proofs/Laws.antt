@@ -9,6 +9,7 @@ use native.Mathlib.Nat.{not-suc-le-zero, le-of-suc-le-suc, eq-or-lt-of-le}
 use native.Mathlib.Numerals.{add-one}
 use lib.ListN.{length, getD, set, drop, replicate}
 use lib.Ieee.{Float, binary64, add}
+use Rattle.lists.proofs.Bools.{never, or-left, or-right}
 use Rattle.lists.specs.Lists.{tabulate, overwrite, sumTo, foldTo, zero64, foldOver, sumOver, anyTo, choose}
 
 -- ---- reading
@@ -132,6 +133,16 @@ pub foldTo-more : {A : Type 0} (f : ℕ → A → A) (x : A) (n : ℕ) → f n (
 unfolding foldTo
 foldTo-more f x n = rw add-one
 
+-- two ways to change a state that agree at the indices passed
+pub foldTo-same : {A : Type 0} (f g : ℕ → A → A) (x : A) (n : ℕ) → ((k : ℕ) → k < n → (s : A) → f k s ≡ g k s) → foldTo f x n ≡ foldTo g x n
+unfolding foldTo
+foldTo-same f g x zero h = refl
+foldTo-same f g x (suc n) h = ap (f n) (foldTo-same f g x n (λ k l. h k (omega arith))) ∙ h n (omega arith) (foldTo g x n)
+
+pub foldOver-same : {A : Type 0} (f g : ℕ → A → A) (x : A) (a b : ℕ) → ((k : ℕ) → k < b → (s : A) → f k s ≡ g k s) → foldOver f x a b ≡ foldOver g x a b
+unfolding foldOver
+foldOver-same f g x a b h = foldTo-same (λ j. f (a + j)) (λ j. g (a + j)) x (b - a) (λ k l. h (a + k) (omega arith))
+
 pub foldOver-none : {A : Type 0} (f : ℕ → A → A) (x : A) (a b : ℕ) → b ≤ a → foldOver f x a b ≡ x
 unfolding foldOver foldTo
 foldOver-none f x a b h =
@@ -174,6 +185,15 @@ pub sumTo-more : (f : ℕ → Float) (n : ℕ) → add binary64 (sumTo f n) (f n
 unfolding sumTo
 sumTo-more f n = foldTo-more (λ k t. add binary64 t (f k)) zero64 n
 
+-- two functions that agree at the indices passed
+pub sumTo-same : (f g : ℕ → Float) (n : ℕ) → ((k : ℕ) → k < n → f k ≡ g k) → sumTo f n ≡ sumTo g n
+unfolding sumTo
+sumTo-same f g n h = foldTo-same (λ k t. add binary64 t (f k)) (λ k t. add binary64 t (g k)) zero64 n (λ k l t. ap (add binary64 t) (h k l))
+
+pub sumOver-same : (f g : ℕ → Float) (a b : ℕ) → ((k : ℕ) → k < b → f k ≡ g k) → sumOver f a b ≡ sumOver g a b
+unfolding sumOver
+sumOver-same f g a b h = foldOver-same (λ k t. add binary64 t (f k)) (λ k t. add binary64 t (g k)) zero64 a b (λ k l t. ap (add binary64 t) (h k l))
+
 pub sumOver-none : (f : ℕ → Float) (a b : ℕ) → b ≤ a → sumOver f a b ≡ zero64
 unfolding sumOver
 sumOver-none f a b h = foldOver-none (λ k t. add binary64 t (f k)) zero64 a b h
@@ -195,28 +215,17 @@ pub any-more : (p : ℕ → Bool) (n : ℕ) → anyTo p n ≡ false → p n ≡ 
 unfolding anyTo
 any-more p n a b = rw (add-one, a, b)
 
-or-true : (a b : Bool) → b ≡ true → (a || b) ≡ true
-or-true true b h = refl
-or-true false b h = h
-
-or-left : (a b : Bool) → a ≡ true → (a || b) ≡ true
-or-left true b h = refl
-or-left false b h = absurd (no-way h)
-  where
-    no-way : false ≡ true → ⊥
-    no-way e = let z : _≡_ {A = ℕ} 0 1 = cc in omega arith
-
 pub any-found : (p : ℕ → Bool) (n k : ℕ) → k < n → p k ≡ true → anyTo p n ≡ true
 unfolding anyTo
 any-found p zero k h e = absurd (not-suc-le-zero h)
-any-found p (suc n) k h e = ⊎-elim (λ q. or-true (anyTo p n) (p n) (rw q at e)) (λ lt. or-left (anyTo p n) (p n) (any-found p n k lt e)) (eq-or-lt-of-le (le-of-suc-le-suc h))
+any-found p (suc n) k h e = ⊎-elim (λ q. or-right (anyTo p n) (p n) (rw q at e)) (λ lt. or-left (anyTo p n) (p n) (any-found p n k lt e)) (eq-or-lt-of-le (le-of-suc-le-suc h))
 
 -- where p holds at no index below n, it fails at each
 pub any-not : (p : ℕ → Bool) (n : ℕ) → anyTo p n ≡ false → (k : ℕ) → k < n → p k ≡ false
 any-not p n e k h = flip (p k) refl
   where
     flip : (b : Bool) → p k ≡ b → p k ≡ false
-    flip true q = absurd (let z : _≡_ {A = ℕ} 0 1 = cc (any-found p n k h q) in omega arith)
+    flip true q = never (any-found p n k h q) e
     flip false q = q
 
 -- one test more, for a loop that keeps what it found
@@ -246,9 +255,9 @@ passes-on true k r h e = absurd (omega arith)
 passes-on false k r h e = (refl, e)
 
 pub neither : (a b : Bool) → (a || b) ≡ false → (a ≡ false) × (b ≡ false)
-neither true b e = absurd (let z : _≡_ {A = ℕ} 0 1 = cc in omega arith)
+neither true b e = never refl e
 neither false b e = (refl, e)
 
 pub both : (a b : Bool) → (a && b) ≡ true → (a ≡ true) × (b ≡ true)
 both true b e = (refl, e)
-both false b e = absurd (let z : _≡_ {A = ℕ} 0 1 = cc in omega arith)
+both false b e = never e refl
