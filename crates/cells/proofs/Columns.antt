@@ -10,7 +10,7 @@ use lib.Dec.{leb, ltb}
 use borrow.Author.Tests.{ltb-true, leb-true}
 use Rattle.lists.proofs.Laws.{both}
 use Rattle.cells.specs.Cells.{axis, within, boxCell, inBox}
-use Rattle.cells.specs.Filing.{turned, hashOf, hashAt, Filed, Spanned}
+use Rattle.cells.specs.Filing.{mixed, turned, hashOf, hashAt, Filed, Spanned}
 
 -- ---- d cubes further along z is d buckets further, where neither remainder wraps
 
@@ -21,15 +21,15 @@ turned-on z d h = omega arith
 mod-on : (a d m : ℕ) → a % m + d < m → (a + d) % m ≡ a % m + d
 mod-on a d m h = sym (mod-add-mod a m d) ∙ mod-eq-of-lt h
 
-regroup : (a b c d : ℕ) → a + b + (c + d) ≡ a + b + c + d
-regroup a b c d = omega arith
+regroup : (a c d : ℕ) → a + (c + d) ≡ a + c + d
+regroup a c d = omega arith
 
 hash-on : (m x y z d : ℕ) → turned z + d < 4294967296 → hashOf m x y z + d < m → hashOf m x y (z + d) ≡ hashOf m x y z + d
 unfolding hashOf
 hash-on m x y z d t h =
-    ap (λ (v : ℕ). (x % 4294967296 * 73856093 + y % 4294967296 * 19349663 + v) % m) (turned-on z d t)
-    ∙ ap (λ (v : ℕ). v % m) (regroup (x % 4294967296 * 73856093) (y % 4294967296 * 19349663) (turned z) d)
-    ∙ mod-on (x % 4294967296 * 73856093 + y % 4294967296 * 19349663 + turned z) d m h
+    ap (λ (v : ℕ). (mixed x y + v) % m) (turned-on z d t)
+    ∙ ap (λ (v : ℕ). v % m) (regroup (mixed x y) (turned z) d)
+    ∙ mod-on (mixed x y + turned z) d m h
 
 -- ---- what a test of a point says
 
