@@ -21,7 +21,7 @@ pub fn file_all(
     ensures { λ m. ⌜ Prepared (now (centroids .entry)) lo radius (now (cell .exit)) (now (order .exit)) (now (first .exit)) (now (sorted .exit)) m ⌝ }
 {
     cells::cells_of(centroids, lo, radius, cell);
-    let m = cells::file(cell, order, place, first);
-    cells::arrange(centroids, order, sorted);
+    let m = cells_file::file(cell, order, place, first);
+    cells_file::arrange(centroids, order, sorted);
     m
 }

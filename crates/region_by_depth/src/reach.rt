@@ -146,7 +146,7 @@ pub fn by_depth(
 {
     let size = crate::cell_size(nodes, tris, surfaces, starts, kept, s, depth);
     crate::cells_of(middles, size, cells);
-    let m = cells::file(cells, order, place, first);
+    let m = cells_file::file(cells, order, place, first);
     reach_all(
         nodes,
         tris,

@@ -1,0 +1,2 @@
+-- `Filings` has why what the test accepts is a filing.
+mod Filings
