@@ -14,10 +14,10 @@ ghost use lib.ListN.{length, getD};
 ghost use lib.Ieee.{binary64, nan, toBits, ofBits};
 ghost use Rattle.lists.specs.Lists.{overwrite};
 ghost use Rattle.ieee.specs.Basic.{absOf, maxOf, minOf, clampOf, isFinite};
-ghost use Rattle.ieee.specs.Tanh.{tanhOf};
-ghost use Rattle.ieee.specs.Sqrt.{sqrtOf};
-ghost use Rattle.ieee.specs.Whole.{floorAt, roundHalfAway};
-ghost use Rattle.ieee.specs.Bits.{totalKey};
+ghost use Rattle.ieee_tanh.specs.Tanh.{tanhOf};
+ghost use Rattle.ieee_root.specs.Sqrt.{sqrtOf};
+ghost use Rattle.ieee_whole.specs.Whole.{floorAt, roundHalfAway};
+ghost use Rattle.ieee_bits.specs.Bits.{totalKey};
 ghost use Rattle.geom.specs.Vectors as Vectors;
 ghost use Rattle.faces.specs.Triangle.{dist2ToTriangle};
 ghost use Rattle.topo.specs.Levels.{modulusOf, levelOf};
@@ -70,7 +70,7 @@ pub extern "C" fn sokdrib_is_finite(x: f64) -> bool
 pub extern "C" fn sokdrib_tanh(z: f64) -> f64
     ensures { λ r. ⌜ r ≡ tanhOf z ⌝ }
 {
-    ieee::tanh(z)
+    ieee_tanh::tanh(z)
 }
 
 // IEEE 754's square root, the nearest value.
@@ -78,7 +78,7 @@ pub extern "C" fn sokdrib_tanh(z: f64) -> f64
 pub extern "C" fn sokdrib_sqrt(x: f64) -> f64
     ensures { λ r. ⌜ r ≡ sqrtOf binary64 x ⌝ }
 {
-    ieee::root::sqrt(x)
+    ieee_root::sqrt(x)
 }
 
 // x.floor() as a 64-bit integer, counted from -2^63: what lies outside saturates, and a not-a-number counts as 0.
@@ -86,7 +86,7 @@ pub extern "C" fn sokdrib_sqrt(x: f64) -> f64
 pub extern "C" fn sokdrib_floor_at(x: f64) -> u64
     ensures { λ r. ⌜ r ≡ floorAt x ⌝ }
 {
-    ieee::whole::floor_at(x)
+    ieee_whole::floor_at(x)
 }
 
 // The nearest whole number, halves away from zero: what lies outside saturates, and a not-a-number gives 0.
@@ -94,7 +94,7 @@ pub extern "C" fn sokdrib_floor_at(x: f64) -> u64
 pub extern "C" fn sokdrib_round_half_away(x: f64) -> u64
     ensures { λ r. ⌜ r ≡ roundHalfAway x ⌝ }
 {
-    ieee::whole::round_half_away(x)
+    ieee_whole::round_half_away(x)
 }
 
 // The bit pattern of x; every not-a-number has one.
@@ -102,7 +102,7 @@ pub extern "C" fn sokdrib_round_half_away(x: f64) -> u64
 pub extern "C" fn sokdrib_to_bits(x: f64) -> u64
     ensures { λ r. ⌜ r ≡ toBits binary64 x ⌝ }
 {
-    ieee::bits::to_bits(x)
+    ieee_bits::to_bits(x)
 }
 
 // The number of a bit pattern; every pattern of a not-a-number gives the same one.
@@ -110,7 +110,7 @@ pub extern "C" fn sokdrib_to_bits(x: f64) -> u64
 pub extern "C" fn sokdrib_from_bits(n: u64) -> f64
     ensures { λ r. ⌜ r ≡ ofBits binary64 n ⌝ }
 {
-    ieee::bits::from_bits(n)
+    ieee_bits::from_bits(n)
 }
 
 // A key whose order is IEEE 754's totalOrder.
@@ -118,7 +118,7 @@ pub extern "C" fn sokdrib_from_bits(n: u64) -> f64
 pub extern "C" fn sokdrib_total_key(x: f64) -> u64
     ensures { λ r. ⌜ r ≡ totalKey x ⌝ }
 {
-    ieee::bits::total_key(x)
+    ieee_bits::total_key(x)
 }
 
 #[no_mangle]
@@ -259,7 +259,7 @@ pub extern "C" fn sokdrib_sqrt_each(xs: &[f64], out: &mut [f64])
     let n = lists::lesser(xs.len(), out.len());
     let mut i = 0usize;
     while i < n {
-        out[i] = ieee::root::sqrt(xs[i]);
+        out[i] = ieee_root::sqrt(xs[i]);
         i += 1usize;
     }
 }
@@ -273,7 +273,7 @@ pub extern "C" fn sokdrib_tanh_each(zs: &[f64], out: &mut [f64])
     let n = lists::lesser(zs.len(), out.len());
     let mut i = 0usize;
     while i < n {
-        out[i] = ieee::tanh(zs[i]);
+        out[i] = ieee_tanh::tanh(zs[i]);
         i += 1usize;
     }
 }

@@ -8,10 +8,11 @@ use native.Mathlib.Omega.{arith}
 use lib.ListN.{length}
 use lib.Dec.{leb, ltb, eqb}
 use borrow.Author.Tests.{le-leb, lt-leb, lt-ltb, le-ltb, ltb-true, eq-eqb, ne-eqb}
+use Rattle.lists.proofs.Bools.{eq-or-ne, le-or-lt}
 use Rattle.lists.proofs.Laws.{both}
 use Rattle.cells.specs.Cells.{axis, within, nearby, nearCell, boxCell, inBlock, inBox}
 use Rattle.cells.proofs.Changed.{Grows, grows-under, grows-over, and-false, and-assoc}
-use Rattle.cells.proofs.Walks.{eq-or-ne, le-or-lt, within-holds, within-fails, within-none, within-same}
+use Rattle.cells.proofs.Walks.{within-holds, within-fails, within-none, within-same}
 
 -- the numbers from lo to k, and k besides
 pub grows-axis : (v lo k : ℕ) → lo ≤ k → Grows (within k (k + 1) v) (within lo k v) (within lo (k + 1) v)

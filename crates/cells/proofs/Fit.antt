@@ -1,26 +1,17 @@
 -- The numbers of a cube fit 64 digits. Assumes nothing.
 use mathlib.Core.Path.{_≡_, ap, _∙_}
-use mathlib.Core.Bool.{true, false}
 use mathlib.Core.List.{List, []}
 use mathlib.Core.Logic.{⊎-elim}
 use Prim.Native.Nat.{ℕ, zero, suc, _^_, _≤_, _<_}
 use native.Mathlib.Omega.{arith}
 use lib.ListN.{length, getD, List·getD-eq-default}
-use lib.Ieee.{Float, nan, inf, fin}
-use Rattle.ieee.specs.Whole.{floorAt}
+use lib.Ieee.{Float}
+use Rattle.ieee_whole.proofs.Floor.{floor-fits}
 use Rattle.geom.specs.declared.Vec3.{Vec3}
 use Rattle.lists.specs.Lists.{overwrite}
+use Rattle.lists.proofs.Bools.{le-or-lt}
 use Rattle.lists.proofs.Laws.{length-overwrite, getD-overwrite-below}
 use Rattle.cells.specs.Cells.{cellAt, cellOf, axis}
-use Rattle.cells.proofs.Walks.{le-or-lt}
-
-floor-fits : (v : Float) → floorAt v < 2 ^ 64
-unfolding floorAt
-floor-fits nan = omega arith
-floor-fits (inf true) = omega arith
-floor-fits (inf false) = omega arith
-floor-fits (fin true m e) = omega arith
-floor-fits (fin false m e) = omega arith
 
 pub cell-fits : (v from size : Float) → cellAt v from size < 2 ^ 64
 unfolding cellAt

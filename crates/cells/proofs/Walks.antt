@@ -8,24 +8,11 @@ use native.Mathlib.Omega.{arith}
 use lib.ListN.{length, getD, set, length-set}
 use lib.Seq.{getD-set-same, getD-set-other}
 use lib.Dec.{leb, eqb}
-use borrow.Author.Tests.{le-leb, lt-leb, leb-true, leb-false, eqb-true, eqb-false, eq-eqb, ne-eqb, lt-ltb, le-ltb}
+use borrow.Author.Tests.{le-leb, lt-leb, eq-eqb, ne-eqb, lt-ltb, le-ltb}
+use Rattle.lists.proofs.Bools.{never, eq-or-ne, le-or-lt}
 use Rattle.cells.specs.Cells.{changed, within}
 use Rattle.cells.specs.Filing.{Filed}
 use Rattle.cells.proofs.Changed.{Grows, and-false, length-changed, is-changed, changed-more, changed-none, changed-same}
-
-pub eq-or-ne : (a b : ℕ) → (a ≡ b) ⊎ (a ≡ b → ⊥)
-eq-or-ne a b = go (eqb a b) refl
-  where
-    go : (t : Bool) → eqb a b ≡ t → (a ≡ b) ⊎ (a ≡ b → ⊥)
-    go true e = inl (eqb-true a b e)
-    go false e = inr (eqb-false a b e)
-
-pub le-or-lt : (a b : ℕ) → (a ≤ b) ⊎ (b < a)
-le-or-lt a b = go (leb a b) refl
-  where
-    go : (t : Bool) → leb a b ≡ t → (a ≤ b) ⊎ (b < a)
-    go true e = inl (leb-true a b e)
-    go false e = inr (leb-false a b e)
 
 -- ---- a range
 
@@ -99,10 +86,7 @@ module _ {A : Type 0} (cells : List (List ℕ)) (order first : List ℕ) (m : �
 
     pub walk-miss : p (getD order k 0) ≡ false → Walked cells order first m p g w₀ a (k + 1) w
     walk-miss miss f =
-        inv f ∙ changed-same g d _ _ w₀ (λ j h. sym (still f k j (λ t q. never (sym t ∙ ap p (there f k j t q) ∙ miss))))
-      where
-        never : true ≡ false → ⊥
-        never e = let z : _≡_ {A = ℕ} 0 1 = cc in omega arith
+        inv f ∙ changed-same g d _ _ w₀ (λ j h. sym (still f k j (λ t q. never t (ap p (there f k j t q) ∙ miss))))
 
   -- where each point that p picks is at a position from a up to b, the walk to b did all
   pub walk-done : (f : Filed cells order first m) (b : ℕ) (w : List A) → ((i : ℕ) → p i ≡ true → (a ≤ f .place i) × (f .place i < b)) → Walked cells order first m p g w₀ a b w → w ≡ changed p g w₀

@@ -5,7 +5,7 @@ use mathlib.Core.List.{List, [], _∷_}
 use lib.ListN.{length, getD}
 use lib.Dec.{leb, ltb}
 use lib.Ieee.{Float, nan, binary64, sub, div}
-use Rattle.ieee.specs.Whole.{floorAt}
+use Rattle.ieee_whole.specs.Whole.{floorAt}
 use Rattle.geom.specs.declared.Vec3.{Vec3}
 
 -- filter.rs, `Grid::cube`: the whole number at or below (v − from)/size, each operation rounded once; as of all cells, 2^63 more

@@ -5,7 +5,7 @@ use Prim.Native.Nat.{ℕ, _+_, _*_}
 use lib.Dec.{T, ltb}
 use lib.Ieee.{Float, binary64, fits, le, lt}
 use Rattle.lists.specs.Lists.{choose}
-use Rattle.ieee.specs.Sqrt.{sqrtOf}
+use Rattle.ieee_root.specs.Sqrt.{sqrtOf}
 
 -- from limit on, a squared distance has a root that is not below the radius
 unfoldable pub Settles : Float → Float → Type 0

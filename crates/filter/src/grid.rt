@@ -71,7 +71,7 @@ pub fn limit_of(radius: f64) -> f64
     ensures { λ r. ⌜ Settles radius r ⌝ }
 {
     let l = radius * radius;
-    if ieee::root::sqrt(l) >= radius {
+    if ieee_root::sqrt(l) >= radius {
         return l;
     }
     0.0 / 0.0

@@ -9,8 +9,8 @@ use lib.Ieee.{Float, isNan, ofBits, add, sub, mul, div, lt}
 use Rattle.lists.specs.Lists.{tabulate, zero64}
 use Rattle.lists.proofs.Laws.{both}
 use Rattle.ieee.specs.Basic.{one64, minOf, maxOf}
-use Rattle.ieee.specs.Sqrt.{sqrtOf}
-use Rattle.ieee.specs.Whole.{floorAt}
+use Rattle.ieee_root.specs.Sqrt.{sqrtOf}
+use Rattle.ieee_whole.specs.Whole.{floorAt}
 use Rattle.geom.specs.Vectors.{two64, least, greatest, less, dot, len2, len, dist}
 use Rattle.cells.specs.Cells.{cellAt, nearby, nearCell}
 use Rattle.filter.specs.Group.{imageIn}

@@ -16,7 +16,7 @@ use Rattle.lists.specs.Lists.{tabulate, choose, overlay}
 use Rattle.lists.proofs.Laws.{length-tabulate, getD-tabulate, choose-false}
 use Rattle.filter_table.specs.Table.{Wf, wellOf}
 use Rattle.filter_table.proofs.Laws.{wf-well}
-use Rattle.cells.proofs.Walks.{le-or-lt}
+use Rattle.lists.proofs.Bools.{le-or-lt}
 use Rattle.filter.specs.Filter.{joined, met, columns, neighbours, start, coefficients}
 use Rattle.filter.specs.Build.{Lent, kept, zeroed, built, numberOf, rowsRefusal, early, outcome, Built}
 use Rattle.filter_meet.proofs.Chosen.{chosen-rising}

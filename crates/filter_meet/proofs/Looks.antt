@@ -9,7 +9,7 @@ use lib.Dec.{T}
 use lib.Ieee.{Float, nan, binary64, add, mul, fits, le, lt}
 use lib.Ieee.Fits.{add-fits}
 use Rattle.lists.proofs.Laws.{choose-true, choose-false}
-use Rattle.ieee.specs.Sqrt.{sqrtOf}
+use Rattle.ieee_root.specs.Sqrt.{sqrtOf}
 use Rattle.geom.specs.Vectors.{less, dot, len2, len, dist}
 use Rattle.geom.specs.declared.Vec3.{Vec3}
 use Rattle.filter.specs.Steps.{Settles}

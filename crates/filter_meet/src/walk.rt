@@ -73,7 +73,7 @@ fn look(
     let i = order[k] as usize;
     let c = cell[i];
     if cells::in_column(c[0], c[1], c[2], x, y, z0, z1) {
-        let d = ieee::root::sqrt(d2);
+        let d = ieee_root::sqrt(d2);
         if d < radius {
             return touch(i, radius - d, mark, count, stamp, weight, bits);
         }

@@ -4,7 +4,7 @@
 use mathlib.Core.Bool.{Bool, _&&_}
 use lib.Ieee.{Float, binary64, add, sub, mul, div, ofBits}
 use Rattle.ieee.specs.Basic.{minOf, maxOf, isFinite}
-use Rattle.ieee.specs.Sqrt.{sqrtOf}
+use Rattle.ieee_root.specs.Sqrt.{sqrtOf}
 use Rattle.geom.specs.declared.Vec3.{Vec3}
 use Rattle.geom.specs.declared.Mirror.{Mirror}
 

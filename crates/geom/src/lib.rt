@@ -91,7 +91,7 @@ impl Vec3 {
     pub fn len(self) -> f64
         ensures { λ r. ⌜ r ≡ Vectors.len self ⌝ }
     {
-        ieee::root::sqrt(self.len2())
+        ieee_root::sqrt(self.len2())
     }
 
     pub fn dist(self, o: Vec3) -> f64

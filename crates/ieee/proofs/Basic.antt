@@ -3,7 +3,7 @@ use mathlib.Core.Path.{_≡_, refl, sym, ap, _∙_, subst}
 use Prim.Native.Nat.{ℕ, zero, suc, _+_, _*_, _<_}
 use native.Mathlib.Nat.{eq-zero-or-pos, mul-pos}
 use native.Mathlib.Omega.{arith}
-use mathlib.Core.Bool.{Bool, true, false, _&&_, _||_, true≢false}
+use mathlib.Core.Bool.{Bool, true, false, _&&_}
 use mathlib.Core.Logic.{⊎-elim}
 use lib.IntN.{ℤ, pos, negsuc}
 use lib.Dec.{T, eqb, eqb→eq, ltb→lt, lt→ltb}
@@ -13,19 +13,13 @@ use lib.Ieee.Fits.{up-pos, and-i, and-l, eq→eqb}
 use lib.Ieee.Bits.{is-true}
 use lib.Ieee.Compare.{differs-from-itself, nan-differs}
 use Rattle.lists.specs.Lists.{choose, zero64}
+use Rattle.lists.proofs.Bools.{never}
 use Rattle.lists.proofs.Laws.{choose-true, choose-false}
 use Rattle.ieee.specs.Basic.{one64, absOf, isFinite}
-
--- ---- two kinds of contradiction
-no : {X : Type 0} → false ≡ true → X
-no e = absurd (true≢false (sym e))
+use Rattle.ieee.proofs.Comparing.{or-r}
 
 pub holds : (b : Bool) → b ≡ true → T b
 holds b e = subst T (sym e) tt
-
-or-r : (a b : Bool) → T b → T (a || b)
-or-r true b t = tt
-or-r false b t = t
 
 -- ---- a zero that a format holds is written in one way
 exponent-zero : (e : ℤ) → up e * down e ≡ 1 → e ≡ pos 0
@@ -43,16 +37,16 @@ zero-is s e t = exponent-zero e (eqb→eq (up e * down e) 1 t)
 -- ---- abs
 pub abs-below : (x : Float) → lt x zero64 ≡ true → neg x ≡ absOf x
 unfolding lt neg absOf ofBits
-abs-below nan h = no h
+abs-below nan h = never h refl
 abs-below (inf true) h = refl
-abs-below (inf false) h = no h
+abs-below (inf false) h = never h refl
 abs-below (fin true m e) h = refl
 abs-below (fin false m e) h = absurd (omega (arith, ltb→lt (m * up e * 1) (0 * down e) (holds _ h)))
 
 pub abs-zero : (x : Float) → T (fits binary64 x) → eq x zero64 ≡ true → zero64 ≡ absOf x
 unfolding eq absOf ofBits
-abs-zero nan t h = no h
-abs-zero (inf s) t h = no h
+abs-zero nan t h = never h refl
+abs-zero (inf s) t h = never h refl
 abs-zero (fin s m e) t h = go m (no-digits m e (omega (arith, eqb→eq (m * up e * 1) (0 * down e) (and-l (eqb (m * up e * 1) (0 * down e)) _ (holds _ h))))) t
   where
     go : (m : ℕ) → m ≡ 0 → T (fits binary64 (fin s m e)) → fin false 0 (pos 0) ≡ fin false m e
@@ -62,13 +56,13 @@ abs-zero (fin s m e) t h = go m (no-digits m e (omega (arith, eqb→eq (m * up e
 pub abs-above : (x : Float) → lt x zero64 ≡ false → eq x zero64 ≡ false → x ≡ absOf x
 unfolding lt eq absOf ofBits
 abs-above nan h z = refl
-abs-above (inf true) h z = no (sym h)
+abs-above (inf true) h z = never refl h
 abs-above (inf false) h z = refl
 abs-above (fin false m e) h z = refl
 abs-above (fin true m e) h z =
     ⊎-elim
-    (λ (q : m * up e ≡ 0). no (sym z ∙ is-true _ (and-i (eqb (m * up e * 1) (0 * down e)) _ (eq→eqb {a = m * up e * 1} {b = 0 * down e} (omega arith)) (or-r false (eqb (m * up e * 1) 0) (eq→eqb {a = m * up e * 1} {b = 0} (omega arith))))))
-    (λ (q : 0 < m * up e). no (sym h ∙ is-true _ (lt→ltb 0 (m * up e * 1 + 0 * down e) (omega arith))))
+    (λ (q : m * up e ≡ 0). never (is-true _ (and-i (eqb (m * up e * 1) (0 * down e)) _ (eq→eqb {a = m * up e * 1} {b = 0 * down e} (omega arith)) (or-r false (eqb (m * up e * 1) 0) (eq→eqb {a = m * up e * 1} {b = 0} (omega arith))))) z)
+    (λ (q : 0 < m * up e). never (is-true _ (lt→ltb 0 (m * up e * 1 + 0 * down e) (omega arith))) h)
     (eq-zero-or-pos (m * up e))
 
 -- ---- a test for a not-a-number
@@ -77,22 +71,22 @@ is-nan x h = differs-from-itself x (holds _ h)
 
 pub is-number : (x : Float) → ne x x ≡ false → isNan x ≡ false
 unfolding isNan
-is-number nan h = no (sym h ∙ nan-differs)
+is-number nan h = never nan-differs h
 is-number (inf s) h = refl
 is-number (fin s m e) h = refl
 
 -- a comparison that holds is between numbers
 pub lt-left : (x y : Float) → lt x y ≡ true → isNan x ≡ false
 unfolding lt isNan
-lt-left nan y h = no h
+lt-left nan y h = never h refl
 lt-left (inf s) y h = refl
 lt-left (fin s m e) y h = refl
 
 pub lt-right : (x y : Float) → lt x y ≡ true → isNan y ≡ false
 unfolding lt isNan
-lt-right nan nan h = no h
-lt-right (inf s) nan h = no h
-lt-right (fin s m e) nan h = no h
+lt-right nan nan h = never h refl
+lt-right (inf s) nan h = never h refl
+lt-right (fin s m e) nan h = never h refl
 lt-right x (inf t) h = refl
 lt-right x (fin t n d) h = refl
 

@@ -4,7 +4,7 @@ use mathlib.Core.Path.{_≡_, refl, sym, ap, _∙_, subst}
 use Prim.Native.Nat.{ℕ, zero, suc, _+_, _-_, _*_, _^_, _≤_, _<_, zero-le}
 use native.Mathlib.Nat.{le-refl, le-trans, le-of-eq, le-add-right, sub-le, mul-pos, mul-le-mul-left, mul-le-mul-right, mul-mul-mul-comm, mul-assoc, mul-comm}
 use native.Mathlib.Omega.{arith}
-use mathlib.Core.Bool.{Bool, true, false, not, cond, _||_, true≢false}
+use mathlib.Core.Bool.{Bool, true, false, not, cond}
 use lib.IntN.{ℤ, pos}
 use lib.Dec.{T, ltb, ltb→lt}
 use borrow.Author.Tests.{ltb-false, ne-eqb}
@@ -14,27 +14,21 @@ use lib.Ieee.Exact.{HasValue, round-exact}
 use lib.Ieee.Order.{le-of-values, round-mono}
 use lib.Ieee.Positive.{positive}
 use Rattle.lists.specs.Lists.{choose}
-use Rattle.ieee.specs.Basic.{maxOf, minOf}
-use Rattle.ieee.specs.Bits.{negative}
+use Rattle.lists.proofs.Bools.{never}
+use Rattle.ieee.specs.Basic.{negative, maxOf, minOf}
+use Rattle.ieee.proofs.Comparing.{or-l}
 use Rattle.ieee.proofs.Order.{Parts, le-parts, parts-le, le-reflexive, le-transitive, le-number, inf-most}
 use Rattle.ieee.proofs.Basic.{holds}
-use Rattle.ieee.proofs.Sqrt.Value.{grid}
+use Rattle.ieee.proofs.Grid.{grid}
 
 -- ---- `lt` and `le`
 
 number : (x : Float) → isNan x ≡ false → T (not (isNan x))
 number x e = subst (λ (b : Bool). T (not b)) (sym e) tt
 
-or-l : (a b : Bool) → T a → T (a || b)
-or-l true b t = tt
-or-l false b t = absurd t
-
 pub lt-le : (x y : Float) → lt x y ≡ true → T (le x y)
 unfolding le
 lt-le x y h = or-l (lt x y) _ (holds (lt x y) h)
-
-no : {X : Type 0} → true ≡ false → X
-no e = absurd (true≢false e)
 
 flipped : (s : Bool) (a : ℕ) (t : Bool) (b : ℕ) → below s a t b ≡ false → Parts t b s a
 flipped false a false b h = record { up = ltb-false a b h; down = le-refl 0 }
@@ -50,13 +44,13 @@ unfolding lt le isNan
 not-lt-le nan y p q h = absurd p
 not-lt-le (inf s) nan p q h = absurd q
 not-lt-le (inf true) (inf true) p q h = tt
-not-lt-le (inf true) (inf false) p q h = no h
+not-lt-le (inf true) (inf false) p q h = never refl h
 not-lt-le (inf false) (inf t) p q h = inf-most (inf t) tt
-not-lt-le (inf true) (fin t n d) p q h = no h
+not-lt-le (inf true) (fin t n d) p q h = never refl h
 not-lt-le (inf false) (fin t n d) p q h = tt
 not-lt-le (fin s m e) nan p q h = absurd q
 not-lt-le (fin s m e) (inf true) p q h = tt
-not-lt-le (fin s m e) (inf false) p q h = no h
+not-lt-le (fin s m e) (inf false) p q h = never refl h
 not-lt-le (fin s m e) (fin t n d) p q h = parts-le t n d s m e (flipped s (m * up e * down d) t (n * up d * down e) h)
 
 -- ---- `max` and `min`: each is one of its operands, so what holds of both holds of it
@@ -220,18 +214,18 @@ mul-grows f nan y z p a b h = absurd p
 mul-grows f (inf s) y z p a b h = absurd p
 mul-grows f (fin true m e) y z p a b h = absurd p
 mul-grows f (fin false m e) nan z p a b h = absurd h
-mul-grows f (fin false m e) (inf true) z p a b h = no a
+mul-grows f (fin false m e) (inf true) z p a b h = never refl a
 mul-grows f (fin false m e) (inf false) nan p a b h = absurd h
-mul-grows f (fin false m e) (inf false) (inf true) p a b h = no b
+mul-grows f (fin false m e) (inf false) (inf true) p a b h = never refl b
 mul-grows f (fin false m e) (inf false) (inf false) p a b h = subst (λ (w : Float). T (le w w)) (sym (times-inf f m e (ltb→lt 0 m p))) tt
 mul-grows f (fin false m e) (inf false) (fin t n d) p a b h = absurd h
-mul-grows f (fin false m e) (fin true n d) z p a b h = no a
+mul-grows f (fin false m e) (fin true n d) z p a b h = never refl a
 mul-grows f (fin false m e) (fin false n d) nan p a b h = absurd h
-mul-grows f (fin false m e) (fin false n d) (inf true) p a b h = no b
+mul-grows f (fin false m e) (fin false n d) (inf true) p a b h = never refl b
 mul-grows f (fin false m e) (fin false n d) (inf false) p a b h =
     subst (λ (w : Float). T (le (round f false (m * up e * (n * up d)) (down e * down d)) w)) (sym (times-inf f m e (ltb→lt 0 m p)))
     (inf-most (round f false (m * up e * (n * up d)) (down e * down d)) (rounded-number f (m * up e * (n * up d)) (down e * down d) (mul-pos (down-pos e) (down-pos d))))
-mul-grows f (fin false m e) (fin false n d) (fin true o i) p a b h = no b
+mul-grows f (fin false m e) (fin false n d) (fin true o i) p a b h = never refl b
 mul-grows f (fin false m e) (fin false n d) (fin false o i) p a b h =
     round-mono f (m * up e * (n * up d)) (down e * down d) (m * up e * (o * up i)) (down e * down i) (mul-pos (down-pos e) (down-pos d)) (mul-pos (down-pos e) (down-pos i))
     (grown (m * up e) (down e) (n * up d) (down d) (o * up i) (down i) (le-parts false n d false o i h .up))

@@ -1,23 +1,35 @@
 -- What comparisons of floats say of their fractions: m * 2 ^ e is m * up e / down e, and `HasValue x s a c` says that x is a / c in size. Assumes nothing.
 use Prim.Native.Nat.{ℕ, suc, _*_, _%_, _^_, _≤_, _<_}
 use mathlib.Core.Path.{_≡_, refl, sym, ap, _∙_, subst}
-use mathlib.Core.Bool.{Bool, true, false, _&&_, _||_}
+use mathlib.Core.Bool.{Bool, true, false, not, _&&_, _||_}
 use mathlib.Core.Logic.{⊎-elim}
 use native.Mathlib.Nat.{mul-right-comm, mul-one, mul-le-mul-right, mul-lt-mul-of-pos-right, eq-or-lt-of-le}
 use native.Mathlib.Omega.{arith}
 use lib.IntN.{ℤ}
 use lib.Dec.{T, leb, ltb, eqb, ltb→lt, leb→le}
-use lib.Ieee.{Float, nan, inf, fin, Format, prec, low, up, down, lt, le, eq, fits}
+use lib.Ieee.{Float, nan, inf, fin, Format, prec, low, up, down, lt, le, eq, ne, isNan, fits}
 use lib.Ieee.Fits.{down-pos, and-l, and-r}
 use lib.Ieee.Exact.{HasValue}
 use borrow.Author.Tests.{ltb-true, ltb-false, leb-true, leb-false, lt-ltb, le-ltb, eq-eqb, ne-eqb}
-
--- a test cannot be both
-pub never : {X : Type 0} {b : Bool} → b ≡ true → b ≡ false → X
-never t f = absurd (subst T (sym t ∙ f) tt)
+use Rattle.lists.proofs.Bools.{never}
 
 pub holds : {b : Bool} → b ≡ true → T b
 holds e = subst T (sym e) tt
+
+pub or-l : (a b : Bool) → T a → T (a || b)
+or-l true b t = tt
+or-l false b t = absurd t
+
+pub or-r : (a b : Bool) → T b → T (a || b)
+or-r true b t = tt
+or-r false b t = t
+
+-- what equals itself is a number
+pub number : (x : Float) → ne x x ≡ false → T (not (isNan x))
+unfolding ne isNan
+number nan h = never refl h
+number (inf s) h = tt
+number (fin s m e) h = tt
 
 le-tests : (a b : ℕ) → (ltb a b || eqb a b && true) ≡ leb a b
 le-tests a b = go (leb a b) refl

@@ -11,16 +11,9 @@ use lib.Ieee.{Float, nan, inf, fin, up, down, below, level, isNan, lt, le, binar
 use borrow.Author.Tests.{le-ltb}
 use lib.Ieee.Fits.{and-l, and-r, and-i, eq→eqb, down-pos}
 use lib.Ieee.Positive.{through}
+use Rattle.ieee.proofs.Comparing.{or-l, or-r}
 
 -- ---- Bool tests
-
-or-l : (a b : Bool) → T a → T (a || b)
-or-l true b t = tt
-or-l false b t = absurd t
-
-or-r : (a b : Bool) → T b → T (a || b)
-or-r true b t = tt
-or-r false b t = t
 
 or-split : (a b : Bool) → T (a || b) → T a ⊎ T b
 or-split true b t = inl tt

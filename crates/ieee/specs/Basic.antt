@@ -1,11 +1,23 @@
 -- The sign, the order and the range of an f64. Definitions only.
+use Prim.Native.Nat.{ℕ}
 use mathlib.Core.Bool.{Bool, true, false}
-use lib.Ieee.{Float, nan, inf, fin, isNan, lt, ofBits, binary64}
+use lib.IntN.{pos}
+use lib.Ieee.{Float, nan, inf, fin, isNan, lt, ofInt, ofBits, binary64}
 use Rattle.lists.specs.Lists.{choose, zero64}
 
 -- 1.0
 abbrev pub one64 : Float
 one64 = ofBits binary64 0x3ff0_0000_0000_0000
+
+-- the whole number k as a float
+abbrev pub whole64 : ℕ → Float
+whole64 k = ofInt binary64 (pos k)
+
+-- whether the sign is minus; a NaN counts as having none
+abbrev pub negative : Float → Bool
+negative nan = false
+negative (inf s) = s
+negative (fin s m e) = s
 
 -- the size of x: IEEE 754's abs, which clears the sign
 unfoldable pub absOf : Float → Float

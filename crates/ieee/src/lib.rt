@@ -1,11 +1,6 @@
-// IEEE 754 binary64 as the optimiser uses it: every function has a result for every input.
-pub mod bits;
-pub mod root;
-pub mod whole;
-
+// IEEE 754 binary64 as the optimiser uses it: the size, the order and the range of a float. Every function has a result for every input.
 ghost use mathlib.Core.Path.{_≡_};
 ghost use Rattle.ieee.specs.Basic.{absOf, maxOf, minOf, clampOf, isFinite};
-ghost use Rattle.ieee.specs.Tanh.{tanhOf};
 
 // The size of x; a zero comes back as +0.
 pub fn abs(x: f64) -> f64
@@ -61,18 +56,4 @@ pub fn is_finite(x: f64) -> bool
     ensures { λ r. ⌜ r ≡ isFinite x ⌝ }
 {
     (-1.0 / 0.0 < x) & (x < 1.0 / 0.0)
-}
-
-// The hyperbolic tangent by Lambert's continued fraction, from the inside.
-pub fn tanh(z: f64) -> f64
-    ensures { λ r. ⌜ r ≡ tanhOf z ⌝ }
-{
-    let zz = z * z;
-    let mut r = 63.0;
-    let mut i = 0u64;
-    while i < 31 {
-        r = ((61 - 2 * i) as f64) + zz / r;
-        i += 1;
-    }
-    z / r
 }

@@ -3,7 +3,7 @@ use mathlib.Core.Path.{_≡_, ap, _∙_}
 use mathlib.Core.Bool.{Bool, true, _&&_}
 use lib.Ieee.{Float, binary64, mul, div}
 use Rattle.lists.proofs.Laws.{both}
-use Rattle.ieee.specs.Tanh.{tanhOf}
+use Rattle.ieee_tanh.specs.Tanh.{tanhOf}
 use Rattle.ieee_lanes.specs.Fraction.{fraction}
 use Rattle.ieee_lanes.proofs.Squeeze.{fraction-is}
 

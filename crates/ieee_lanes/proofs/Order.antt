@@ -13,9 +13,8 @@ use lib.Ieee.Fits.{up-pos, down-pos}
 use lib.Ieee.Order.{round-mono}
 use lib.Ieee.Positive.{positive}
 use Rattle.lists.specs.Lists.{zero64}
-use Rattle.ieee.specs.Basic.{one64, absOf, maxOf, minOf}
-use Rattle.ieee.specs.Bits.{negative}
-use Rattle.ieee.specs.Sqrt.{rootOf, sqrtOf}
+use Rattle.ieee.specs.Basic.{one64, absOf, maxOf, minOf, negative}
+use Rattle.ieee_root.specs.Sqrt.{rootOf, sqrtOf}
 use Rattle.ieee.proofs.Order.{plusZero, le-parts, parts-le, le-transitive, le-number, le-not-lt, inf-most}
 use Rattle.ieee.proofs.Basic.{lt-left, lt-right}
 use Rattle.ieee.proofs.Bounds.{not-lt-le, max-either, min-either, max-left, max-right, min-left, min-right}

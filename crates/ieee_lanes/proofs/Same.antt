@@ -12,8 +12,8 @@ use lib.Ieee.{Float, nan, inf, fin, binary64, up, down, lt, eq, ne, isNan, fits,
 use lib.Ieee.Fits.{down-pos}
 use Rattle.lists.specs.Lists.{zero64}
 use Rattle.lists.proofs.Laws.{both}
-use Rattle.ieee.specs.Bits.{precedes, totalKey}
-use Rattle.ieee.proofs.TotalOrder.{precedes-key, key-same}
+use Rattle.ieee_bits.specs.Bits.{precedes, totalKey}
+use Rattle.ieee_bits.proofs.TotalOrder.{precedes-key, key-same}
 
 no : {X : Type 0} → true ≡ false → X
 no e = absurd (true≢false e)

@@ -13,8 +13,8 @@ use lib.Ieee.Order.{round-mono}
 use lib.Ieee.Positive.{positive, between}
 use Rattle.lists.specs.Lists.{zero64}
 use Rattle.lists.proofs.Laws.{foldTo-none, foldTo-more, both}
-use Rattle.ieee.specs.Basic.{one64}
-use Rattle.ieee.specs.Tanh.{whole64, lambert}
+use Rattle.ieee.specs.Basic.{one64, whole64}
+use Rattle.ieee_tanh.specs.Tanh.{lambert}
 use Rattle.ieee.proofs.Basic.{holds}
 use Rattle.ieee.proofs.Order.{plusZero, le-parts, le-transitive, le-reflexive}
 use Rattle.ieee_lanes.specs.Fraction.{fraction, smallOf, sixtyFour, Between}

@@ -4,8 +4,7 @@ use mathlib.Core.Bool.{Bool, _&&_}
 use lib.Dec.{T}
 use lib.Ieee.{Float, binary64, add, div, lt, le, fits, ofBits}
 use Rattle.lists.specs.Lists.{foldTo, zero64}
-use Rattle.ieee.specs.Basic.{one64}
-use Rattle.ieee.specs.Tanh.{whole64}
+use Rattle.ieee.specs.Basic.{one64, whole64}
 
 -- `lambert` of the root of q
 unfoldable pub fraction : Float → ℕ → Float

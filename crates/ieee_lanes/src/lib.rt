@@ -1,9 +1,9 @@
-// `ieee::tanh` of eight numbers, whose divisions are under way at a time. Each is worked out as it would be alone; small ones by half of the divisions.
+// `ieee_tanh::tanh` of eight numbers, whose divisions are under way at a time. Each is worked out as it would be alone; small ones by half of the divisions.
 ghost use mathlib.Core.Path.{_≡_};
 ghost use mathlib.Core.Bool.{true};
 ghost use Prim.Native.Nat.{_≤_, _<_};
 ghost use lib.Ieee.{le};
-ghost use Rattle.ieee.specs.Tanh.{tanhOf};
+ghost use Rattle.ieee_tanh.specs.Tanh.{tanhOf};
 ghost use Rattle.ieee_lanes.specs.Fraction.{fraction, smallOf, Between};
 
 pub struct Eight {
@@ -273,7 +273,7 @@ fn fractions(a: f64, b: f64, c: f64, d: f64, e: f64, f: f64, g: f64, h: f64) -> 
     )
 }
 
-// `ieee::tanh` of eight numbers.
+// `ieee_tanh::tanh` of eight numbers.
 pub fn tanh_each(a: f64, b: f64, c: f64, d: f64, e: f64, f: f64, g: f64, h: f64) -> Eight
     ensures { λ r. ⌜ (r .a ≡ tanhOf a) × (r .b ≡ tanhOf b) × (r .c ≡ tanhOf c) × (r .d ≡ tanhOf d) × (r .e ≡ tanhOf e) × (r .f ≡ tanhOf f) × (r .g ≡ tanhOf g) × (r .h ≡ tanhOf h) ⌝ }
 {

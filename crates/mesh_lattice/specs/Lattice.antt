@@ -8,7 +8,7 @@ use lib.ListN.{length, getD}
 use lib.Dec.{ltb, eqb}
 use lib.Ieee.{Float, binary64, mul, div, lt, ofBits}
 use Rattle.lists.specs.Lists.{foldTo, choose, zero64}
-use Rattle.ieee.specs.Tanh.{whole64}
+use Rattle.ieee.specs.Basic.{whole64}
 use Rattle.geom.specs.Vectors.{vec, plus, scaled}
 use Rattle.geom.specs.declared.Vec3.{Vec3}
 use Rattle.mesh.specs.Mesh.{stored, triple}

@@ -6,7 +6,7 @@ use lib.ListN.{getD}
 use lib.Ieee.{Float, nan, add, sub, mul, div, ofBits, ofInt}
 use Rattle.lists.specs.Lists.{foldTo, zero64}
 use Rattle.ieee.specs.Basic.{one64}
-use Rattle.ieee.specs.Tanh.{lambert, tanhOf}
+use Rattle.ieee_tanh.specs.Tanh.{lambert, tanhOf}
 use Rattle.oc.specs.Project.{stages, belowOf, wholeOf, turned, projected}
 
 -- 0 and 1 stay where they are

@@ -2,7 +2,7 @@
 use mathlib.Core.List.{List, [], _∷_}
 use lib.Ieee.{Float, binary64, add, sub, mul, div, ofBits}
 use Rattle.ieee.specs.Basic.{one64}
-use Rattle.ieee.specs.Tanh.{tanhOf}
+use Rattle.ieee_tanh.specs.Tanh.{tanhOf}
 
 -- PROJECT_AT, 0.5
 abbrev pub half : Float

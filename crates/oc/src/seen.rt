@@ -25,8 +25,8 @@ pub struct Projected {
 pub fn at_steepness(beta: f64) -> Projection
     ensures { λ r. ⌜ (r .beta ≡ beta) × (r .below ≡ belowOf beta) × (r .whole ≡ wholeOf beta) ⌝ }
 {
-    let below = ieee::tanh(beta * topo::PROJECT_AT);
-    let whole = below + ieee::tanh(beta * (1.0 - topo::PROJECT_AT));
+    let below = ieee_tanh::tanh(beta * topo::PROJECT_AT);
+    let whole = below + ieee_tanh::tanh(beta * (1.0 - topo::PROJECT_AT));
     Projection { beta, below, whole }
 }
 
@@ -39,7 +39,7 @@ pub fn project(at: Projection, v: f64) -> Projected
     let beta = at.beta;
     let below = at.below;
     let whole = at.whole;
-    let t = ieee::tanh(beta * (v - topo::PROJECT_AT));
+    let t = ieee_tanh::tanh(beta * (v - topo::PROJECT_AT));
     Projected {
         density: (below + t) / whole,
         slope: beta * (1.0 - t * t) / whole,

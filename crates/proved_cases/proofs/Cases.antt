@@ -4,8 +4,8 @@ use lib.Ieee as Ieee
 use lib.Ieee.{binary64, ofBits}
 use Rattle.lists.specs.Lists as Lists
 use Rattle.ieee.specs.Basic as Basic
-use Rattle.ieee.specs.Whole as Whole
-use Rattle.ieee.specs.Sqrt as Sqrt
+use Rattle.ieee_whole.specs.Whole as Whole
+use Rattle.ieee_root.specs.Sqrt as Sqrt
 use Rattle.geom.specs.Vectors as Vectors
 use Rattle.cells.specs.Cells as Cells
 use Rattle.filter.specs.Group as Group

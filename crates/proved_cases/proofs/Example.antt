@@ -4,8 +4,8 @@ use mathlib.Core.List.{[], _∷_}
 use lib.Ieee as Ieee
 use Rattle.lists.specs.Lists as Lists
 use Rattle.ieee.specs.Basic as Basic
-use Rattle.ieee.specs.Whole as Whole
-use Rattle.ieee.specs.Sqrt as Sqrt
+use Rattle.ieee_whole.specs.Whole as Whole
+use Rattle.ieee_root.specs.Sqrt as Sqrt
 use Rattle.geom.specs.Vectors as Vectors
 use Rattle.topo.specs.Levels as Levels
 use Rattle.cells.specs.Cells as Cells

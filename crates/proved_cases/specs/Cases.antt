@@ -6,8 +6,7 @@ use Prim.Native.Nat.{ℕ, _<_}
 use lib.ListN.{getD}
 use lib.Ieee.{Float, nan, binary64, neg, ofBits}
 use Rattle.lists.specs.Lists.{zero64}
-use Rattle.ieee.specs.Basic.{one64}
-use Rattle.ieee.specs.Tanh.{whole64}
+use Rattle.ieee.specs.Basic.{one64, whole64}
 use Rattle.geom.specs.Vectors.{vec, two64, image}
 use Rattle.geom.specs.declared.Vec3.{Vec3}
 use Rattle.geom.specs.declared.Mirror.{Mirror}

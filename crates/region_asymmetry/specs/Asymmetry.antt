@@ -8,7 +8,7 @@ use lib.Dec.{ltb, eqb}
 use lib.Ieee.{Float, binary64, mul}
 use Rattle.lists.specs.Lists.{tabulate, foldTo, anyTo, choose, zero64}
 use Rattle.ieee.specs.Basic.{maxOf}
-use Rattle.ieee.specs.Sqrt.{sqrtOf}
+use Rattle.ieee_root.specs.Sqrt.{sqrtOf}
 use Rattle.geom.specs.Vectors.{image}
 use Rattle.geom.specs.declared.Vec3.{Vec3}
 use Rattle.geom.specs.declared.Mirror.{Mirror}

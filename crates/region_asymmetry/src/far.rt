@@ -42,7 +42,7 @@ pub fn farthest(
             let p = mirror.image(mesh::point(nodes[k]));
             worst = ieee::max(
                 worst,
-                ieee::root::sqrt(near(faces, order, boxes, p, worst * worst)),
+                ieee_root::sqrt(near(faces, order, boxes, p, worst * worst)),
             );
             k += 1;
         } else {

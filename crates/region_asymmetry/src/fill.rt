@@ -58,9 +58,9 @@ pub fn keys(faces: &[[f64; 9]], kx: &mut [u64], ky: &mut [u64], kz: &mut [u64])
     let mut i = 0;
     while i < faces.len() {
         let m = middle(faces[i]);
-        kx[i] = ieee::bits::total_key(m.x);
-        ky[i] = ieee::bits::total_key(m.y);
-        kz[i] = ieee::bits::total_key(m.z);
+        kx[i] = ieee_bits::total_key(m.x);
+        ky[i] = ieee_bits::total_key(m.y);
+        kz[i] = ieee_bits::total_key(m.z);
         i += 1;
     }
 }

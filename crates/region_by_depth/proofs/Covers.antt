@@ -10,11 +10,11 @@ use lib.Dec.{leb, ltb}
 use lib.Ieee.{Float, nan, inf, fin, binary64, mul}
 use borrow.Author.Tests.{le-leb, lt-leb, lt-ltb, le-ltb}
 use Rattle.lists.proofs.Laws.{length-tabulate, getD-tabulate}
-use Rattle.ieee.specs.Whole.{floorAt}
+use Rattle.ieee_whole.specs.Whole.{floorAt}
 use Rattle.mesh.specs.Mesh.{point}
 use Rattle.cells.specs.Cells.{axis, within, boxCell, inBox, changed}
 use Rattle.cells.proofs.Changed.{changed-none, changed-same, and-false}
-use Rattle.cells.proofs.Walks.{le-or-lt}
+use Rattle.lists.proofs.Bools.{le-or-lt}
 use Rattle.region_by_depth.specs.Depth.{lowOf, highOf, cellNumber, axisNear, cellsNear, reaches}
 use Rattle.region_by_depth.specs.Steps.{cellAbout, Ready, nearAt, boxNear, reached}
 use Rattle.region_by_depth.specs.declared.Triangle.{Triangle}

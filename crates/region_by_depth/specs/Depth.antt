@@ -7,7 +7,7 @@ use lib.Dec.{leb}
 use lib.Ieee.{Float, binary64, mul, div, le, lt}
 use Rattle.lists.specs.Lists.{foldTo, anyTo, choose, zero64}
 use Rattle.ieee.specs.Basic.{maxOf, isFinite}
-use Rattle.ieee.specs.Whole.{floorAt}
+use Rattle.ieee_whole.specs.Whole.{floorAt}
 use Rattle.geom.specs.Vectors.{least, greatest, dist}
 use Rattle.geom.specs.declared.Vec3.{Vec3}
 use Rattle.faces.specs.Triangle.{dist2ToTriangle}

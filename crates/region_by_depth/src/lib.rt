@@ -104,7 +104,7 @@ fn cell_size(
 fn cell_number(v: f64, size: f64) -> u64
     ensures { λ r. ⌜ r ≡ Depth.cellNumber v size ⌝ }
 {
-    ieee::whole::floor_at(v / size)
+    ieee_whole::floor_at(v / size)
 }
 
 // The cells of the middles.

@@ -5,7 +5,7 @@ use mathlib.Core.List.{List, [], _∷_}
 use lib.Ieee.{Float, binary64, ofBits, neg, add, sub, mul, div, sum, round, units, le, isNan}
 use Rattle.lists.specs.Lists.{foldTo, anyTo, choose, zero64}
 use Rattle.ieee.specs.Basic.{one64, absOf, minOf, maxOf}
-use Rattle.ieee.specs.Sqrt.{sqrtOf, rootOf, isqrt, rootIn}
+use Rattle.ieee_root.specs.Sqrt.{sqrtOf, rootOf, isqrt, rootIn}
 use Rattle.geom.specs.Vectors.{vec, less, dot, len, len2}
 use Rattle.geom.specs.declared.Mirror.{Mirror}
 use Rattle.mesh.specs.Mesh.{nodeOutside, nodesOutside}

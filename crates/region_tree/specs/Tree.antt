@@ -6,7 +6,7 @@ use lib.ListN.{length, getD, take, drop}
 use lib.Dec.{leb}
 use lib.Ieee.{Float, nan, binary64, le, neg, ofBits}
 use Rattle.lists.specs.Lists.{choose}
-use Rattle.ieee.specs.Bits.{totalKey}
+use Rattle.ieee_bits.specs.Bits.{totalKey}
 use Rattle.geom.specs.Vectors.{vec, plus, less, scaled, least, greatest}
 use Rattle.geom.specs.declared.Vec3.{Vec3}
 use Rattle.region_median.specs.Median.{rankBy, parted}

@@ -14,12 +14,12 @@ fn point() -> Vec3 {
 
 pub fn sqrt() -> bool {
     let x = number();
-    same(ieee::root::sqrt(x), number())
+    same(ieee_root::sqrt(x), number())
 }
 
 pub fn tanh() -> bool {
     let x = number();
-    same(ieee::tanh(x), number())
+    same(ieee_tanh::tanh(x), number())
 }
 
 pub fn max() -> bool {
@@ -41,12 +41,12 @@ pub fn clamp() -> bool {
 
 pub fn floor_at() -> bool {
     let x = number();
-    ieee::whole::floor_at(x) == word()
+    ieee_whole::floor_at(x) == word()
 }
 
 pub fn round_half_away() -> bool {
     let x = number();
-    ieee::whole::round_half_away(x) == word()
+    ieee_whole::round_half_away(x) == word()
 }
 
 pub fn level_of() -> bool {

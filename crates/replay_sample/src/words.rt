@@ -21,7 +21,7 @@ pub fn word() -> u64 {
 }
 
 pub fn number() -> f64 {
-    ieee::bits::from_bits(word())
+    ieee_bits::from_bits(word())
 }
 
 // 01: "Bits are compared with both zeros as one and all not-a-numbers as one."

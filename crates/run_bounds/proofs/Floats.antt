@@ -16,7 +16,7 @@ use lib.Ieee.Back.{round-whole}
 use lib.Ieee.Positive.{positive, positive-of-value, between}
 use Rattle.ieee.proofs.Order.{le-transitive, le-parts, parts-le}
 use Rattle.ieee.proofs.Sign.{round-neg}
-use Rattle.ieee.proofs.Sqrt.Value.{grid}
+use Rattle.ieee.proofs.Grid.{grid}
 use Rattle.ieee_lanes.proofs.Order.{Plus, Finite, round-plus}
 
 -- ---- a value that a format holds is rounded to itself

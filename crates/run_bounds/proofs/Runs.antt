@@ -9,7 +9,7 @@ use lib.Ieee.{binary64, div, le, fits, ofBits}
 use Rattle.lists.specs.Lists.{choose}
 use Rattle.lists.proofs.Laws.{length-tabulate, getD-tabulate, choose-true, choose-false}
 use Rattle.ieee.specs.Basic.{one64}
-use Rattle.ieee.specs.Sqrt.{sqrtOf}
+use Rattle.ieee_root.specs.Sqrt.{sqrtOf}
 use Rattle.oc.specs.Start.{startDensity, startDesign}
 use Rattle.update_rates.proofs.Bounds.{Move}
 use Rattle.run_plain.specs.declared.Verdict.{Verdict}

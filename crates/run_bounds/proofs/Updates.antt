@@ -13,7 +13,7 @@ use lib.Ieee.Positive.{between}
 use Rattle.lists.specs.Lists.{choose, zero64}
 use Rattle.lists.proofs.Laws.{getD-tabulate, choose-true, choose-false}
 use Rattle.ieee.specs.Basic.{one64, maxOf, minOf}
-use Rattle.ieee.specs.Sqrt.{sqrtOf}
+use Rattle.ieee_root.specs.Sqrt.{sqrtOf}
 use Rattle.ieee.proofs.Order.{le-number, le-transitive}
 use Rattle.ieee.proofs.Bounds.{max-either, min-either, max-left, max-right, min-left, min-right, raised-lowered}
 use Rattle.oc.specs.Start.{xMin}

@@ -6,7 +6,7 @@ use lib.ListN.{length, getD}
 use lib.Ieee.{Float, nan, binary64, sub, mul, div, lt, ofBits}
 use Rattle.lists.specs.Lists.{tabulate, sumTo, anyTo, choose, zero64}
 use Rattle.ieee.specs.Basic.{one64, absOf, isFinite}
-use Rattle.ieee.specs.Sqrt.{sqrtOf}
+use Rattle.ieee_root.specs.Sqrt.{sqrtOf}
 use Rattle.topo.specs.declared.Iteration.{Iteration}
 use Rattle.oc.specs.declared.seen.Sharpness.{Sharpness}
 use Rattle.oc.specs.declared.seen.Sharpness.the-variants.{Off, At}

@@ -6,7 +6,7 @@ use Prim.Native.Nat.{ℕ, zero, suc}
 use lib.ListN.{length, getD}
 use lib.Ieee.{Float, nan, binary64, div, ofBits}
 use Rattle.lists.specs.Lists.{sumTo, choose}
-use Rattle.ieee.specs.Sqrt.{sqrtOf}
+use Rattle.ieee_root.specs.Sqrt.{sqrtOf}
 use Rattle.topo.specs.declared.Iteration.{Iteration}
 use Rattle.oc.specs.declared.seen.Sharpness.the-variants.{Off, At}
 use Rattle.oc.specs.Seen.{slopes, elementSlope, sharpenedSlope, seenSlope}

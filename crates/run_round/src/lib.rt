@@ -3,7 +3,7 @@ ghost use mathlib.Core.Path.{_≡_};
 ghost use lib.Ieee.{binary64, div, ofBits};
 ghost use lib.ListN.{length};
 ghost use Rattle.lists.specs.Lists.{choose};
-ghost use Rattle.ieee.specs.Sqrt.{sqrtOf};
+ghost use Rattle.ieee_root.specs.Sqrt.{sqrtOf};
 ghost use Rattle.oc.specs.Seen.{seenDensity, seenSlope};
 ghost use Rattle.oc.specs.Slopes.{volumeSlope, straightSlope};
 ghost use Rattle.run_plain.specs.Formulas.{sharpness as sharpnessOf, updateAt, recordAt};
@@ -56,7 +56,7 @@ fn move_at(sharpen: bool, beta: f64) -> f64
     ensures { λ r. ⌜ r ≡ choose sharpen (div binary64 (ofBits binary64 0x3fc9_9999_9999_999a) (sqrtOf binary64 beta)) (ofBits binary64 0x3fc9_9999_9999_999a) ⌝ }
 {
     if sharpen {
-        return topo::MOVE / ieee::root::sqrt(beta);
+        return topo::MOVE / ieee_root::sqrt(beta);
     }
     topo::MOVE
 }

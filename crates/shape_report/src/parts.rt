@@ -68,7 +68,7 @@ fn bits(out: &mut [u8], at: usize, x: f64) -> usize
     requires { ⌜ at ≤ length (now out) ⌝ }
     ensures { λ r. ⌜ Wrote (bitsOf x) at (now (out .entry)) (now (out .exit)) r ⌝ }
 {
-    hex(out, at, 16, ieee::bits::to_bits(x))
+    hex(out, at, 16, ieee_bits::to_bits(x))
 }
 
 // A space, and the bits.

@@ -12,7 +12,7 @@ pub fn numbers(from: &[u64], n: usize, to: &mut [f64])
 {
     let mut i = 0usize;
     while i < n {
-        to[i] = ieee::bits::from_bits(from[i]);
+        to[i] = ieee_bits::from_bits(from[i]);
         i += 1usize;
     }
 }
@@ -20,9 +20,9 @@ pub fn numbers(from: &[u64], n: usize, to: &mut [f64])
 fn point(b: [u64; 3]) -> [f64; 3]
     ensures { λ r. ⌜ r ≡ pointOf b ⌝ }
 {
-    let x = ieee::bits::from_bits(b[0]);
-    let y = ieee::bits::from_bits(b[1]);
-    let z = ieee::bits::from_bits(b[2]);
+    let x = ieee_bits::from_bits(b[0]);
+    let y = ieee_bits::from_bits(b[1]);
+    let z = ieee_bits::from_bits(b[2]);
     [x, y, z]
 }
 
@@ -42,12 +42,12 @@ pub fn points(from: &[[u64; 3]], n: usize, to: &mut [[f64; 3]])
 fn plane(b: [u64; 6]) -> [f64; 6]
     ensures { λ r. ⌜ r ≡ planeOf b ⌝ }
 {
-    let x = ieee::bits::from_bits(b[0]);
-    let y = ieee::bits::from_bits(b[1]);
-    let z = ieee::bits::from_bits(b[2]);
-    let u = ieee::bits::from_bits(b[3]);
-    let v = ieee::bits::from_bits(b[4]);
-    let w = ieee::bits::from_bits(b[5]);
+    let x = ieee_bits::from_bits(b[0]);
+    let y = ieee_bits::from_bits(b[1]);
+    let z = ieee_bits::from_bits(b[2]);
+    let u = ieee_bits::from_bits(b[3]);
+    let v = ieee_bits::from_bits(b[4]);
+    let w = ieee_bits::from_bits(b[5]);
     [x, y, z, u, v, w]
 }
 

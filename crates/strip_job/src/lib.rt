@@ -38,8 +38,8 @@ pub fn goal(job: Job) -> Goal
     ensures { λ r. ⌜ r ≡ goalOf job ⌝ }
 {
     Goal {
-        fraction: ieee::bits::from_bits(job.fraction),
-        radius: ieee::bits::from_bits(job.radius),
+        fraction: ieee_bits::from_bits(job.fraction),
+        radius: ieee_bits::from_bits(job.radius),
         sharpen: job.sharpen,
         max_iterations: job.max_iterations,
     }

@@ -2,9 +2,8 @@
 use mathlib.Core.Path.{_≡_, refl}
 use lib.Ieee.{nan, binary64, ofBits, ofInt, neg, mul, round, units, lt}
 use Rattle.lists.specs.Lists.{choose}
-use Rattle.ieee.specs.Basic.{clampOf}
-use Rattle.ieee.specs.Tanh.{whole64}
-use Rattle.ieee.specs.Whole.{roundHalfAway}
+use Rattle.ieee.specs.Basic.{clampOf, whole64}
+use Rattle.ieee_whole.specs.Whole.{roundHalfAway}
 use Rattle.topo.specs.Levels.{levelOf}
 
 pub level-of-half : levelOf (ofBits binary64 0x3fe0_0000_0000_0000) ≡ 500

@@ -10,10 +10,9 @@ use lib.Ieee.{Float, nan, inf, fin, Format, binary64, up, down, low, emax, prec,
 use lib.Ieee.Fits.{down-pos}
 use lib.Ieee.Order.{round-mono}
 use Rattle.lists.specs.Lists.{choose, zero64}
-use Rattle.ieee.specs.Basic.{one64, clampOf}
-use Rattle.ieee.specs.Tanh.{whole64}
-use Rattle.ieee.specs.Whole.{roundHalfAway}
-use Rattle.ieee.proofs.Round.{round-le}
+use Rattle.ieee.specs.Basic.{one64, clampOf, whole64}
+use Rattle.ieee_whole.specs.Whole.{roundHalfAway}
+use Rattle.ieee_whole.proofs.Round.{round-le}
 use Rattle.topo.specs.Levels.{levelOf}
 
 no : {X : Type 0} → true ≡ false → X

@@ -1,9 +1,8 @@
 -- mod.rs: the level that a density is solved at, and the modulus of a level. Definitions only.
 use Prim.Native.Nat.{ℕ, min}
 use lib.Ieee.{Float, binary64, add, sub, mul, div, ofBits}
-use Rattle.ieee.specs.Basic.{one64, clampOf}
-use Rattle.ieee.specs.Tanh.{whole64}
-use Rattle.ieee.specs.Whole.{roundHalfAway}
+use Rattle.ieee.specs.Basic.{one64, clampOf, whole64}
+use Rattle.ieee_whole.specs.Whole.{roundHalfAway}
 
 -- 1e-9
 abbrev pub FLOOR : Float

@@ -85,7 +85,7 @@ pub fn modulus(level: u16, e0: f64) -> f64
 pub fn level_of(x: f64) -> u16
     ensures { λ r. ⌜ r ≡ levelOf x ⌝ }
 {
-    ieee::whole::round_half_away(ieee::clamp(x) * (LEVELS as f64)) as u16
+    ieee_whole::round_half_away(ieee::clamp(x) * (LEVELS as f64)) as u16
 }
 
 // The constants of mod.rs that no other function looks at, held to their values.

@@ -6,7 +6,7 @@ use lib.ListN.{length, getD}
 use lib.Ieee.{Float, nan, binary64, add, sub, mul, div, neg, lt, ne, ofBits}
 use Rattle.lists.specs.Lists.{tabulate, foldTo, anyTo, choose, zero64}
 use Rattle.ieee.specs.Basic.{one64, maxOf, minOf}
-use Rattle.ieee.specs.Sqrt.{sqrtOf}
+use Rattle.ieee_root.specs.Sqrt.{sqrtOf}
 use Rattle.oc.specs.Start.{xMin}
 
 -- 1e4

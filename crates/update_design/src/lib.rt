@@ -29,7 +29,7 @@ pub fn grown(old: f64, gain: f64, rate: f64) -> f64
     ensures { λ r. ⌜ r ≡ grownOf old gain rate ⌝ }
 {
     if gain > 0.0 {
-        return old * ieee::root::sqrt(gain / rate);
+        return old * ieee_root::sqrt(gain / rate);
     }
     0.0
 }

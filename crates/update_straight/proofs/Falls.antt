@@ -12,10 +12,10 @@ use lib.Ieee.Positive.{positive, between}
 use Rattle.lists.specs.Lists.{foldTo, sumTo, choose, zero64}
 use Rattle.lists.proofs.Laws.{getD-tabulate, length-tabulate}
 use Rattle.ieee.specs.Basic.{one64, absOf, maxOf}
-use Rattle.ieee.specs.Sqrt.{sqrtOf}
+use Rattle.ieee_root.specs.Sqrt.{sqrtOf}
 use Rattle.ieee.proofs.Order.{le-reflexive, le-transitive, le-number, le-not-lt}
 use Rattle.ieee.proofs.Bounds.{lt-le, not-lt-le, max-right, mul-grows}
-use Rattle.ieee.proofs.Sqrt.Monotone.{sqrt-mono}
+use Rattle.ieee_root.proofs.Monotone.{sqrt-mono}
 use Rattle.oc.specs.declared.kept.Rule.the-variants.{Straight}
 use Rattle.oc.specs.Start.{xMin}
 use Rattle.oc.specs.Record.{dot}

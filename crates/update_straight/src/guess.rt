@@ -53,7 +53,7 @@ pub fn reaches(x: &[f64], gain: &[f64], passive: &[bool], reach: &mut [f64])
 {
     let mut i = 0usize;
     while i < x.len() {
-        reach[i] = lists::either(passive[i], 1e300, x[i] * ieee::root::sqrt(gain[i]));
+        reach[i] = lists::either(passive[i], 1e300, x[i] * ieee_root::sqrt(gain[i]));
         i += 1usize;
     }
 }
@@ -76,7 +76,7 @@ pub fn guess(
     let mut passes = 1usize;
     while passes < PASSES {
         let rate = 0.5 * (below + above);
-        let kept = solid + roughly(x, reach, dv, m, 1.0 / ieee::root::sqrt(rate));
+        let kept = solid + roughly(x, reach, dv, m, 1.0 / ieee_root::sqrt(rate));
         let met = ieee::abs(kept - target) <= tolerance;
         if met | (rate <= below) | (rate >= above) {
             return Known { below, above };

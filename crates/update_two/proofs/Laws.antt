@@ -9,7 +9,7 @@ use lib.Ieee.{Float, nan, binary64, add, mul, div}
 use Rattle.lists.specs.Lists.{tabulate, foldTo, sumTo, choose}
 use Rattle.lists.proofs.Laws.{sumTo-more, getD-tabulate, length-tabulate}
 use Rattle.ieee.specs.Basic.{one64, clampOf}
-use Rattle.ieee.specs.Tanh.{tanhOf}
+use Rattle.ieee_tanh.specs.Tanh.{tanhOf}
 use Rattle.filter_table.specs.Table.{rowSum, applied}
 use Rattle.oc.specs.declared.seen.Sharpness.the-variants.{At}
 use Rattle.oc.specs.Project.{belowOf, wholeOf, turned, projected}

@@ -138,8 +138,8 @@ fn one(
 {
     let beta = at.beta;
     let p = place(beta, starts, near, coef, x, y, passive.len(), e);
-    let a = grown(at, passive, volumes, e, ieee::tanh(p.a), sum.a);
-    let b = grown(at, passive, volumes, e, ieee::tanh(p.b), sum.b);
+    let a = grown(at, passive, volumes, e, ieee_tanh::tanh(p.a), sum.a);
+    let b = grown(at, passive, volumes, e, ieee_tanh::tanh(p.b), sum.b);
     Two { a, b }
 }
 

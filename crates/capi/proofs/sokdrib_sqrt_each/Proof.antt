@@ -8,7 +8,7 @@ use lib.ListN.{length, getD}
 use lib.Ieee.{binary64, nan}
 use Rattle.lists.specs.Lists.{overwrite}
 use Rattle.lists.proofs.Laws.{overwrite-none, overwrite-more}
-use Rattle.ieee.specs.Sqrt.{sqrtOf}
+use Rattle.ieee_root.specs.Sqrt.{sqrtOf}
 use Rattle.capi.proofs.sokdrib_sqrt_each.Statement.{statement}
 use Rattle.capi.proofs.sokdrib_sqrt_each.Tie as tie
 

@@ -8,7 +8,7 @@ use lib.ListN.{length, getD}
 use lib.Ieee.{nan}
 use Rattle.lists.specs.Lists.{overwrite}
 use Rattle.lists.proofs.Laws.{overwrite-none, overwrite-more}
-use Rattle.ieee.specs.Tanh.{tanhOf}
+use Rattle.ieee_tanh.specs.Tanh.{tanhOf}
 use Rattle.capi.proofs.sokdrib_tanh_each.Statement.{statement}
 use Rattle.capi.proofs.sokdrib_tanh_each.Tie as tie
 

@@ -4,7 +4,7 @@ use mathlib.Core.Path.{ap}
 use Prim.Native.Nat.{ℕ, _+_, _%_}
 use native.Mathlib.Nat.{mod-lt}
 use native.Mathlib.Omega.{arith}
-use Rattle.cells.specs.Filing.{mixed, hashOf, turned}
+use Rattle.cells.specs.Filing.{hashOf, turned}
 use Rattle.cells.proofs.hash.Statement.{statement}
 use Rattle.cells.proofs.hash.Tie as tie
 

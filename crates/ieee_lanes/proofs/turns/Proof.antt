@@ -1,4 +1,4 @@
--- `ieee_lanes::turns` meets its contract, each of the eight as `ieee::tanh`. The invariant: each is its `fraction` of the turns gone through. Assumes nothing.
+-- `ieee_lanes::turns` meets its contract, each of the eight as `ieee_tanh::tanh`. The invariant: each is its `fraction` of the turns gone through. Assumes nothing.
 use borrow.Author.Needs.{needs}
 use mathlib.Core.Path.{_≡_, ap, _∙_}
 use Prim.Native.Nat.{_-_, _*_, _≤_}

@@ -3,8 +3,8 @@ use borrow.Author.Needs.{needs}
 use mathlib.Core.Path.{_≡_, ap, _∙_}
 use native.Mathlib.Omega.{arith}
 use lib.Ieee.{Float, binary64, mul}
-use Rattle.ieee.specs.Tanh.{whole64}
-use Rattle.ieee.specs.Whole.{roundHalfAway}
+use Rattle.ieee.specs.Basic.{whole64}
+use Rattle.ieee_whole.specs.Whole.{roundHalfAway}
 use Rattle.topo.specs.Levels.{levelOf}
 use Rattle.topo.proofs.Levels.{level-most}
 use Rattle.topo.proofs.level_of.Statement.{statement}

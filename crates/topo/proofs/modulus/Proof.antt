@@ -5,8 +5,7 @@ use mathlib.Core.Logic.{⊎-elim}
 use Prim.Native.Nat.{ℕ, min}
 use native.Mathlib.Omega.{arith}
 use lib.Ieee.{binary64, add, sub, mul, div}
-use Rattle.ieee.specs.Basic.{one64}
-use Rattle.ieee.specs.Tanh.{whole64}
+use Rattle.ieee.specs.Basic.{one64, whole64}
 use Rattle.topo.specs.Levels.{FLOOR, cube, densityOf, modulusOf}
 use Rattle.topo.proofs.modulus.Statement.{statement}
 use Rattle.topo.proofs.modulus.Tie as tie

@@ -4,10 +4,11 @@ use mathlib.Core.Bool.{false}
 use lib.Ieee.{Float, binary64, mul, div, le, lt, eq, ofBits}
 use Rattle.lists.specs.Lists.{zero64}
 use lib.Ieee.Fits.{mul-fits}
-use Rattle.ieee.proofs.Comparing.{holds, never}
+use Rattle.ieee.proofs.Comparing.{holds}
+use Rattle.lists.proofs.Bools.{never}
 use Rattle.ieee.proofs.Order.{le-not-lt}
-use Rattle.ieee.proofs.Sqrt.Monotone.{sqrt-at-least}
-use Rattle.ieee.specs.Sqrt.{sqrtOf}
+use Rattle.ieee_root.proofs.Monotone.{sqrt-at-least}
+use Rattle.ieee_root.specs.Sqrt.{sqrtOf}
 use Rattle.filter.specs.Steps.{Settles}
 use borrow.Author.Needs.{needs}
 use Rattle.filter.proofs.grid.limit_of.Statement.{statement}

@@ -2,7 +2,7 @@
 use borrow.Author.Needs.{needs}
 use mathlib.Core.Path.{ap, _∙_}
 use lib.Ieee.{binary64}
-use Rattle.ieee.specs.Sqrt.{sqrtOf}
+use Rattle.ieee_root.specs.Sqrt.{sqrtOf}
 use Rattle.geom.specs.Vectors.{len}
 use Rattle.geom.proofs.Vec3.len.Statement.{statement}
 use Rattle.geom.proofs.Vec3.len.Tie as tie

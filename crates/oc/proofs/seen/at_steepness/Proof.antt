@@ -1,4 +1,4 @@
--- `oc::seen::at_steepness` meets its contract by that of `ieee::tanh`. Assumes nothing.
+-- `oc::seen::at_steepness` meets its contract by that of `ieee_tanh::tanh`. Assumes nothing.
 use mathlib.Core.Path.{refl}
 use Rattle.oc.specs.Project.{belowOf, wholeOf}
 use borrow.Author.Needs.{needs}

@@ -1,4 +1,4 @@
--- `oc::seen::project` meets its contract by that of `ieee::tanh`. Assumes nothing.
+-- `oc::seen::project` meets its contract by that of `ieee_tanh::tanh`. Assumes nothing.
 use Rattle.oc.specs.Project.{turned, projected, projectedSlope}
 use borrow.Author.Needs.{needs}
 use Rattle.oc.proofs.seen.project.Statement.{statement}

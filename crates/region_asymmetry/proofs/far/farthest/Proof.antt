@@ -10,7 +10,7 @@ use lib.Ieee.{Float, binary64, mul}
 use Rattle.lists.specs.Lists.{foldTo, choose, zero64}
 use Rattle.lists.proofs.Laws.{foldTo-more, choose-true, choose-false}
 use Rattle.ieee.specs.Basic.{maxOf}
-use Rattle.ieee.specs.Sqrt.{sqrtOf}
+use Rattle.ieee_root.specs.Sqrt.{sqrtOf}
 use Rattle.geom.specs.Vectors.{image}
 use Rattle.geom.specs.declared.Vec3.{Vec3}
 use Rattle.mesh.specs.Mesh.{point}

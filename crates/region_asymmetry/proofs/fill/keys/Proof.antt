@@ -9,7 +9,7 @@ use Rattle.lists.proofs.Laws.{overwrite-none, overwrite-more}
 use Rattle.region_asymmetry.proofs.Filled.{fill-map}
 use mathlib.Core.List.{List, []}
 use lib.Ieee.{Float}
-use Rattle.ieee.specs.Bits.{totalKey}
+use Rattle.ieee_bits.specs.Bits.{totalKey}
 use Rattle.region_tree.specs.Tree.{cornersOf, middleOf, coordinate, keysAlong}
 use Rattle.region_asymmetry.proofs.fill.keys.Statement.{statement}
 use Rattle.region_asymmetry.proofs.fill.keys.Tie as tie

@@ -1,7 +1,0 @@
--- The laws of `specs/Sqrt.antt`. For other crates: `Nearest`, that the root is the nearest value; `Every`, all cases and all competitors; `Monotone`, that it is monotone; and `Examples`, worked roots.
-pub mod Integer
-pub mod Value
-pub mod Nearest
-pub mod Every
-pub mod Monotone
-pub mod Examples

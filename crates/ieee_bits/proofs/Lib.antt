@@ -1,0 +1,3 @@
+-- `TotalOrder` and `Patterns` have the laws of `specs/Bits.antt`.
+pub mod TotalOrder
+pub mod Patterns

@@ -1,0 +1,2 @@
+-- `Bits` has IEEE 754's totalOrder.
+pub mod Bits

@@ -1,0 +1,2 @@
+-- `Lambert` has the law that `tanh` is odd.
+pub mod Lambert

@@ -1,0 +1,2 @@
+-- `Tanh` has Lambert's continued fraction.
+pub mod Tanh

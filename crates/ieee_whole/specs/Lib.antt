@@ -1,0 +1,2 @@
+-- `Whole` has the whole numbers near a float.
+pub mod Whole
