@@ -23,8 +23,8 @@ use Rattle.ieee.proofs.Grid.{grid}
 
 -- ---- `lt` and `le`
 
-number : (x : Float) → isNan x ≡ false → T (not (isNan x))
-number x e = subst (λ (b : Bool). T (not b)) (sym e) tt
+pub no-nan : (x : Float) → isNan x ≡ false → T (not (isNan x))
+no-nan x e = subst (λ (b : Bool). T (not b)) (sym e) tt
 
 pub lt-le : (x y : Float) → lt x y ≡ true → T (le x y)
 unfolding le
@@ -83,7 +83,7 @@ max-right x y q = go (isNan x) (isNan y) (lt x y) refl refl refl
     go true b c ex ey el = le-reflexive y q
     go false true c ex ey el = absurd (subst (λ (t : Bool). T (not t)) ey q)
     go false false true ex ey el = le-reflexive y q
-    go false false false ex ey el = not-lt-le x y (number x ex) q el
+    go false false false ex ey el = not-lt-le x y (no-nan x ex) q el
 
 pub max-left : (x y : Float) → T (not (isNan x)) → T (le x (maxOf x y))
 unfolding maxOf choose
@@ -103,7 +103,7 @@ min-right x y q = go (isNan x) (isNan y) (lt y x) refl refl refl
     go true b c ex ey el = le-reflexive y q
     go false true c ex ey el = absurd (subst (λ (t : Bool). T (not t)) ey q)
     go false false true ex ey el = le-reflexive y q
-    go false false false ex ey el = not-lt-le y x q (number x ex) el
+    go false false false ex ey el = not-lt-le y x q (no-nan x ex) el
 
 pub min-left : (x y : Float) → T (not (isNan x)) → T (le (minOf x y) x)
 unfolding minOf choose
@@ -200,7 +200,7 @@ sub-below f (fin false m e) (fin false n d) t p q = go (ltb (m * up e * down d) 
 rounded-number : (f : Format) (a c : ℕ) → 0 < c → T (not (isNan (round f false a c)))
 rounded-number f a c C = le-number (round f false a c) (round f false a c) (round-mono f a c a c C C (le-refl (a * c)))
 
-grown : (a u n d n' d' : ℕ) → n * d' ≤ n' * d → a * n * (u * d') ≤ a * n' * (u * d)
+pub grown : (a u n d n' d' : ℕ) → n * d' ≤ n' * d → a * n * (u * d') ≤ a * n' * (u * d)
 grown a u n d n' d' h =
     le-trans (le-of-eq (mul-mul-mul-comm a n u d')) (le-trans (mul-le-mul-left (a * u) h) (le-of-eq (sym (mul-mul-mul-comm a n' u d))))
 

@@ -12,19 +12,14 @@ use lib.Ieee.{Float, nan, inf, fin, Format, prec, emax, low, up, down, isNan, lt
 use lib.Ieee.Fits.{up-pos, down-pos}
 use lib.Ieee.Order.{round-mono}
 use lib.Ieee.Positive.{positive}
+use Rattle.lists.proofs.Bools.{never}
 use Rattle.lists.specs.Lists.{zero64}
 use Rattle.ieee.specs.Basic.{one64, absOf, maxOf, minOf, negative}
 use Rattle.ieee_root.specs.Sqrt.{rootOf, sqrtOf}
 use Rattle.ieee.proofs.Order.{plusZero, le-parts, parts-le, le-transitive, le-number, le-not-lt, inf-most}
 use Rattle.ieee.proofs.Basic.{lt-left, lt-right}
-use Rattle.ieee.proofs.Bounds.{not-lt-le, max-either, min-either, max-left, max-right, min-left, min-right}
+use Rattle.ieee.proofs.Bounds.{not-lt-le, max-either, min-either, max-left, max-right, min-left, min-right, no-nan, grown}
 use Rattle.ieee.proofs.Sign.{round-neg}
-
-no : {X : Type 0} → true ≡ false → X
-no e = absurd (true≢false e)
-
-number : (x : Float) → isNan x ≡ false → T (not (isNan x))
-number x e = subst (λ (b : Bool). T (not b)) (sym e) tt
 
 -- what is at most something is a number
 pub number-left : (x y : Float) → T (le x y) → T (not (isNan x))
@@ -61,21 +56,21 @@ lt-of-lt-of-le x y z h k = go (lt x z) refl
   where
     go : (b : Bool) → lt x z ≡ b → lt x z ≡ true
     go true e = e
-    go false e = no (sym h ∙ le-not-lt y x (le-transitive y z x k (not-lt-le x z (number x (lt-left x y h)) (le-number y z k) e)))
+    go false e = never h (le-not-lt y x (le-transitive y z x k (not-lt-le x z (no-nan x (lt-left x y h)) (le-number y z k) e)))
 
 pub lt-of-le-of-lt : (x y z : Float) → T (le x y) → lt y z ≡ true → lt x z ≡ true
 lt-of-le-of-lt x y z h k = go (lt x z) refl
   where
     go : (b : Bool) → lt x z ≡ b → lt x z ≡ true
     go true e = e
-    go false e = no (sym k ∙ le-not-lt z y (le-transitive z x y (not-lt-le x z (number-left x y h) (number z (lt-right y z k)) e) h))
+    go false e = never k (le-not-lt z y (le-transitive z x y (not-lt-le x z (number-left x y h) (no-nan z (lt-right y z k)) e) h))
 
 -- what has no minus is at least +0
 pub plus-above : (x : Float) → Plus x → T (le plusZero x)
 plus-above nan p = absurd (unfold isNan in p .number)
-plus-above (inf true) p = no (p .sign)
+plus-above (inf true) p = never refl (p .sign)
 plus-above (inf false) p = unfold le in tt
-plus-above (fin true m e) p = no (p .sign)
+plus-above (fin true m e) p = never refl (p .sign)
 plus-above (fin false m e) p = parts-le false 0 (pos 0) false m e (record { up = omega arith; down = zero-le })
 
 -- ---- what rounding gives has the sign that it is told, and is a number
@@ -107,15 +102,15 @@ round-plus f a c = units-plus f _ _
 pub add-plus : (f : Format) (x y : Float) → Plus x → Plus y → Plus (add f x y)
 unfolding add sum isNan
 add-plus f nan y p q = absurd (p .number)
-add-plus f (inf true) y p q = no (p .sign)
+add-plus f (inf true) y p q = never refl (p .sign)
 add-plus f (inf false) nan p q = absurd (q .number)
-add-plus f (inf false) (inf true) p q = no (q .sign)
+add-plus f (inf false) (inf true) p q = never refl (q .sign)
 add-plus f (inf false) (inf false) p q = p
 add-plus f (inf false) (fin t n d) p q = p
-add-plus f (fin true m e) y p q = no (p .sign)
+add-plus f (fin true m e) y p q = never refl (p .sign)
 add-plus f (fin false m e) nan p q = absurd (q .number)
 add-plus f (fin false m e) (inf t) p q = q
-add-plus f (fin false m e) (fin true n d) p q = no (q .sign)
+add-plus f (fin false m e) (fin true n d) p q = never refl (q .sign)
 add-plus f (fin false m e) (fin false n d) p q = round-plus f (m * up e * down d + n * up d * down e) (down e * down d)
 
 -- (X / x + Y / y) ≤ (X' / x' + Y' / y') for X / x ≤ X' / x' and Y / y ≤ Y' / y'
@@ -137,30 +132,27 @@ add-finite f m e n d m' e' n' d' h k =
 
 pub add-grows : (f : Format) (x y x' y' : Float) → Plus x → Plus y → Plus x' → Plus y' → T (le x x') → T (le y y') → T (le (add f x y) (add f x' y'))
 add-grows f x y nan y' p q p' q' h k = absurd (unfold isNan in p' .number)
-add-grows f x y (inf true) y' p q p' q' h k = no (p' .sign)
+add-grows f x y (inf true) y' p q p' q' h k = never refl (p' .sign)
 add-grows f x y (inf false) nan p q p' q' h k = absurd (unfold isNan in q' .number)
-add-grows f x y (inf false) (inf true) p q p' q' h k = no (q' .sign)
+add-grows f x y (inf false) (inf true) p q p' q' h k = never refl (q' .sign)
 add-grows f x y (inf false) (inf false) p q p' q' h k = unfold add in inf-most (add f x y) (add-plus f x y p q .number)
 add-grows f x y (inf false) (fin t n d) p q p' q' h k = unfold add in inf-most (add f x y) (add-plus f x y p q .number)
-add-grows f x y (fin true m' e') y' p q p' q' h k = no (p' .sign)
+add-grows f x y (fin true m' e') y' p q p' q' h k = never refl (p' .sign)
 add-grows f x y (fin false m' e') nan p q p' q' h k = absurd (unfold isNan in q' .number)
-add-grows f x y (fin false m' e') (inf true) p q p' q' h k = no (q' .sign)
+add-grows f x y (fin false m' e') (inf true) p q p' q' h k = never refl (q' .sign)
 add-grows f x y (fin false m' e') (inf false) p q p' q' h k = unfold add in inf-most (add f x y) (add-plus f x y p q .number)
-add-grows f x y (fin false m' e') (fin true n' d') p q p' q' h k = no (q' .sign)
+add-grows f x y (fin false m' e') (fin true n' d') p q p' q' h k = never refl (q' .sign)
 add-grows f nan y (fin false m' e') (fin false n' d') p q p' q' h k = absurd (unfold isNan in p .number)
-add-grows f (inf true) y (fin false m' e') (fin false n' d') p q p' q' h k = no (p .sign)
+add-grows f (inf true) y (fin false m' e') (fin false n' d') p q p' q' h k = never refl (p .sign)
 add-grows f (inf false) y (fin false m' e') (fin false n' d') p q p' q' h k = absurd (unfold le in h)
-add-grows f (fin true m e) y (fin false m' e') (fin false n' d') p q p' q' h k = no (p .sign)
+add-grows f (fin true m e) y (fin false m' e') (fin false n' d') p q p' q' h k = never refl (p .sign)
 add-grows f (fin false m e) nan (fin false m' e') (fin false n' d') p q p' q' h k = absurd (unfold isNan in q .number)
-add-grows f (fin false m e) (inf true) (fin false m' e') (fin false n' d') p q p' q' h k = no (q .sign)
+add-grows f (fin false m e) (inf true) (fin false m' e') (fin false n' d') p q p' q' h k = never refl (q .sign)
 add-grows f (fin false m e) (inf false) (fin false m' e') (fin false n' d') p q p' q' h k = absurd (unfold le in k)
-add-grows f (fin false m e) (fin true n d) (fin false m' e') (fin false n' d') p q p' q' h k = no (q .sign)
+add-grows f (fin false m e) (fin true n d) (fin false m' e') (fin false n' d') p q p' q' h k = never refl (q .sign)
 add-grows f (fin false m e) (fin false n d) (fin false m' e') (fin false n' d') p q p' q' h k = add-finite f m e n d m' e' n' d' h k
 
 -- ---- products with a value that has no minus and is no infinity
-
-products : (M u N n N' n' : ℕ) → N * n' ≤ N' * n → M * N * (u * n') ≤ M * N' * (u * n)
-products M u N n N' n' h = le-trans (le-of-eq (mul-mul-mul-comm M N u n')) (le-trans (mul-le-mul-left (M * u) h) (le-of-eq (sym (mul-mul-mul-comm M N' u n))))
 
 pub mul-plus : (f : Format) (x y : Float) → Finite x → Finite y → Plus (mul f x y)
 unfolding mul
@@ -170,7 +162,7 @@ mul-finite : (f : Format) (m : ℕ) (e : ℤ) (n : ℕ) (d : ℤ) (n' : ℕ) (d'
 unfolding mul
 mul-finite f m e n d n' d' h =
     round-mono f (m * up e * (n * up d)) (down e * down d) (m * up e * (n' * up d')) (down e * down d') (mul-pos (down-pos e) (down-pos d)) (mul-pos (down-pos e) (down-pos d'))
-    (products (m * up e) (down e) (n * up d) (down d) (n' * up d') (down d') (le-parts false n d false n' d' h .up))
+    (grown (m * up e) (down e) (n * up d) (down d) (n' * up d') (down d') (le-parts false n d false n' d' h .up))
 
 pub mul-rises : (f : Format) (x y z : Float) → Finite x → Finite y → Finite z → T (le y z) → T (le (mul f x y) (mul f x z))
 mul-rises f x y z p q r h =
@@ -225,9 +217,9 @@ div-falls f x (fin false n d) (fin false n' d') p q r h =
 pub sqrt-plus : (f : Format) (x : Float) → Plus x → Plus (sqrtOf f x)
 unfolding sqrtOf rootOf isNan
 sqrt-plus f nan p = absurd (p .number)
-sqrt-plus f (inf true) p = no (p .sign)
+sqrt-plus f (inf true) p = never refl (p .sign)
 sqrt-plus f (inf false) p = p
-sqrt-plus f (fin true m e) p = no (p .sign)
+sqrt-plus f (fin true m e) p = never refl (p .sign)
 sqrt-plus f (fin false zero e) p = record { number = tt; sign = refl }
 sqrt-plus f (fin false (suc m) e) p = units-plus f _ _
 
@@ -247,16 +239,16 @@ abs-round f a c = ap absOf (round-neg f false a c) ∙ undone (round f false a c
   where
     undone : (x : Float) → Plus x → absOf (neg x) ≡ x
     undone nan p = absurd (unfold isNan in p .number)
-    undone (inf true) p = no (p .sign)
+    undone (inf true) p = never refl (p .sign)
     undone (inf false) p = unfold absOf neg in refl
-    undone (fin true m e) p = no (p .sign)
+    undone (fin true m e) p = never refl (p .sign)
     undone (fin false m e) p = unfold absOf neg in refl
 
 abs-plus : (x : Float) → Plus x → absOf x ≡ x
 abs-plus nan p = absurd (unfold isNan in p .number)
-abs-plus (inf true) p = no (p .sign)
+abs-plus (inf true) p = never refl (p .sign)
 abs-plus (inf false) p = unfold absOf in refl
-abs-plus (fin true m e) p = no (p .sign)
+abs-plus (fin true m e) p = never refl (p .sign)
 abs-plus (fin false m e) p = unfold absOf in refl
 
 sum-is : (f : Format) (a b c : ℕ) → sum f false a true b c ≡ cond (ltb a b) (round f true (b - a) c) (round f false (a - b) c)
@@ -334,31 +326,31 @@ module _ (f : Format) (n : ℕ) (d : ℤ) where
   -- above t, the larger is the farther
   pub farther-above : (x x' : Float) → Plus x → Plus x' → T (le t x) → T (le x x') → T (le (absOf (sub f x t)) (absOf (sub f x' t)))
   farther-above nan x' q p h k = absurd (unfold isNan in q .number)
-  farther-above (inf true) x' q p h k = no (q .sign)
+  farther-above (inf true) x' q p h k = never refl (q .sign)
   farther-above (inf false) nan q p h k = absurd (unfold isNan in p .number)
-  farther-above (inf false) (inf true) q p h k = no (p .sign)
+  farther-above (inf false) (inf true) q p h k = never refl (p .sign)
   farther-above (inf false) (inf false) q p h k = unfold sub add neg absOf le in tt
   farther-above (inf false) (fin s m' e') q p h k = absurd (unfold le in k)
-  farther-above (fin true m e) x' q p h k = no (q .sign)
+  farther-above (fin true m e) x' q p h k = never refl (q .sign)
   farther-above (fin false m e) nan q p h k = absurd (unfold isNan in p .number)
-  farther-above (fin false m e) (inf true) q p h k = no (p .sign)
+  farther-above (fin false m e) (inf true) q p h k = never refl (p .sign)
   farther-above (fin false m e) (inf false) q p h k = to-infinity (absOf (sub f (fin false m e) t)) (finite-number m e)
     where
       to-infinity : (z : Float) → T (not (isNan z)) → T (le z (absOf (sub f (inf false) t)))
       to-infinity z h = unfold sub add neg absOf in inf-most z h
-  farther-above (fin false m e) (fin true m' e') q p h k = no (p .sign)
+  farther-above (fin false m e) (fin true m' e') q p h k = never refl (p .sign)
   farther-above (fin false m e) (fin false m' e') q p h k = above-finite m e m' e' h k
 
   -- and below t the smaller
   pub farther-below : (x x' : Float) → Plus x → Plus x' → T (le x t) → T (le x' x) → T (le (absOf (sub f x t)) (absOf (sub f x' t)))
   farther-below nan x' q p h k = absurd (unfold isNan in q .number)
-  farther-below (inf true) x' q p h k = no (q .sign)
+  farther-below (inf true) x' q p h k = never refl (q .sign)
   farther-below (inf false) x' q p h k = absurd (unfold le in h)
-  farther-below (fin true m e) x' q p h k = no (q .sign)
+  farther-below (fin true m e) x' q p h k = never refl (q .sign)
   farther-below (fin false m e) nan q p h k = absurd (unfold isNan in p .number)
-  farther-below (fin false m e) (inf true) q p h k = no (p .sign)
+  farther-below (fin false m e) (inf true) q p h k = never refl (p .sign)
   farther-below (fin false m e) (inf false) q p h k = absurd (unfold le in k)
-  farther-below (fin false m e) (fin true m' e') q p h k = no (p .sign)
+  farther-below (fin false m e) (fin true m' e') q p h k = never refl (p .sign)
   farther-below (fin false m e) (fin false m' e') q p h k = below-finite m e m' e' h k
 
 -- ---- values that tests find
@@ -366,9 +358,9 @@ module _ (f : Format) (n : ℕ) (d : ℤ) where
 -- 1 / v is above 0 only where v is +0 or above it, and no infinity
 pub finite-of-inverse : (v : Float) → lt zero64 (div binary64 one64 v) ≡ true → Finite v
 unfolding lt div ofBits
-finite-of-inverse nan h = no (sym h)
-finite-of-inverse (inf true) h = no (sym h)
-finite-of-inverse (inf false) h = no (sym h)
+finite-of-inverse nan h = never h refl
+finite-of-inverse (inf true) h = never h refl
+finite-of-inverse (inf false) h = never h refl
 finite-of-inverse (fin true n d) h = absurd (clash (eqb n 0) h)
   where
     minus : (a c : ℕ) → negative (round binary64 true a c) ≡ true
@@ -376,9 +368,9 @@ finite-of-inverse (fin true n d) h = absurd (clash (eqb n 0) h)
       where
         turned : (x : Float) → Plus x → negative (neg x) ≡ true
         turned nan p = absurd (unfold isNan in p .number)
-        turned (inf true) p = no (p .sign)
+        turned (inf true) p = never refl (p .sign)
         turned (inf false) p = unfold neg in refl
-        turned (fin true m e) p = no (p .sign)
+        turned (fin true m e) p = never refl (p .sign)
         turned (fin false m e) p = unfold neg in refl
 
     not-above : (x : Float) → negative x ≡ true → lt zero64 x ≡ true → ⊥
@@ -396,9 +388,9 @@ finite-of-inverse (fin false n d) h = record { m = n; e = d; is = refl }
 -- above 0 and below the infinity
 pub positive-of-tests : (x : Float) → lt zero64 x ≡ true → lt x (inf false) ≡ true → T (positive x)
 unfolding lt ofBits
-positive-of-tests nan h k = no (sym h)
-positive-of-tests (inf true) h k = no (sym h)
-positive-of-tests (inf false) h k = no (sym k)
-positive-of-tests (fin true m e) h k = no (sym h)
+positive-of-tests nan h k = never h refl
+positive-of-tests (inf true) h k = never h refl
+positive-of-tests (inf false) h k = never k refl
+positive-of-tests (fin true m e) h k = never h refl
 positive-of-tests (fin false zero e) h k = absurd (omega (arith, ltb-true (0 * 1 * down e) (0 * up e * 1) h))
 positive-of-tests (fin false (suc m) e) h k = lt→ltb 0 (suc m) (omega arith)

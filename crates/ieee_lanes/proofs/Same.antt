@@ -1,6 +1,6 @@
 -- Two floats that are equal and no zeros are one: neither precedes the other in totalOrder, and a key of that order is one float's. Assumes nothing.
 use mathlib.Core.Path.{_≡_, refl, sym, _∙_}
-use mathlib.Core.Bool.{Bool, true, false, not, _&&_, _||_, Bool·beq, true≢false}
+use mathlib.Core.Bool.{Bool, true, false, not, _&&_, _||_, Bool·beq}
 use Prim.Native.Nat.{ℕ, _*_, _≤_, _<_}
 use native.Mathlib.Nat.{le-of-eq, le-antisymm, eq-zero-or-pos, mul-pos}
 use native.Mathlib.Omega.{arith}
@@ -11,12 +11,10 @@ use borrow.Author.Tests.{ltb-false, le-ltb, eqb-true, eq-eqb}
 use lib.Ieee.{Float, nan, inf, fin, binary64, up, down, lt, eq, ne, isNan, fits, ofBits}
 use lib.Ieee.Fits.{down-pos}
 use Rattle.lists.specs.Lists.{zero64}
+use Rattle.lists.proofs.Bools.{never}
 use Rattle.lists.proofs.Laws.{both}
 use Rattle.ieee_bits.specs.Bits.{precedes, totalKey}
 use Rattle.ieee_bits.proofs.TotalOrder.{precedes-key, key-same}
-
-no : {X : Type 0} → true ≡ false → X
-no e = absurd (true≢false e)
 
 -- of one sign and size
 module _ (m : ℕ) (e : ℤ) (n : ℕ) (d : ℤ) (h : m * up e * down d ≡ n * up d * down e) where
@@ -46,16 +44,16 @@ zero-size s m e d h =
 
 pub eq-same : (x y : Float) → T (fits binary64 x) → T (fits binary64 y) → eq x y ≡ true → ne x zero64 ≡ true → x ≡ y
 unfolding eq
-eq-same nan y f g e z = no (sym e)
-eq-same (inf s) nan f g e z = no (sym e)
+eq-same nan y f g e z = never e refl
+eq-same (inf s) nan f g e z = never e refl
 eq-same (inf true) (inf true) f g e z = refl
-eq-same (inf true) (inf false) f g e z = no (sym e)
-eq-same (inf false) (inf true) f g e z = no (sym e)
+eq-same (inf true) (inf false) f g e z = never e refl
+eq-same (inf false) (inf true) f g e z = never e refl
 eq-same (inf false) (inf false) f g e z = refl
-eq-same (inf s) (fin t n d) f g e z = no (sym e)
-eq-same (fin s m i) nan f g e z = no (sym e)
-eq-same (fin s m i) (inf t) f g e z = no (sym e)
+eq-same (inf s) (fin t n d) f g e z = never e refl
+eq-same (fin s m i) nan f g e z = never e refl
+eq-same (fin s m i) (inf t) f g e z = never e refl
 eq-same (fin true m i) (fin true n d) f g e z = one-float true m i n d f g (eqb-true _ _ (both (eqb (m * up i * down d) (n * up d * down i)) _ e .0))
 eq-same (fin false m i) (fin false n d) f g e z = one-float false m i n d f g (eqb-true _ _ (both (eqb (m * up i * down d) (n * up d * down i)) _ e .0))
-eq-same (fin true m i) (fin false n d) f g e z = no (sym z ∙ zero-size true m i d (eqb-true _ _ (both (eqb (m * up i * down d) (n * up d * down i)) (eqb (m * up i * down d) 0) e .1)))
-eq-same (fin false m i) (fin true n d) f g e z = no (sym z ∙ zero-size false m i d (eqb-true _ _ (both (eqb (m * up i * down d) (n * up d * down i)) (eqb (m * up i * down d) 0) e .1)))
+eq-same (fin true m i) (fin false n d) f g e z = never z (zero-size true m i d (eqb-true _ _ (both (eqb (m * up i * down d) (n * up d * down i)) (eqb (m * up i * down d) 0) e .1)))
+eq-same (fin false m i) (fin true n d) f g e z = never z (zero-size false m i d (eqb-true _ _ (both (eqb (m * up i * down d) (n * up d * down i)) (eqb (m * up i * down d) 0) e .1)))

@@ -3,20 +3,18 @@ use mathlib.Core.Path.{_≡_, refl}
 use Prim.Native.Nat.{ℕ, zero, suc, _+_, _*_, _^_, _≤_}
 use native.Mathlib.Nat.{le-trans, le-of-eq}
 use native.Mathlib.Omega.{arith}
-use mathlib.Core.Bool.{Bool, true, false, cond, true≢false}
+use mathlib.Core.Bool.{Bool, true, false, cond}
 use lib.Dec.{ltb, lit≤}
 use borrow.Author.Tests.{ltb-false}
 use lib.Ieee.{Float, nan, inf, fin, Format, binary64, up, down, low, emax, prec, odd, units, round, mul, lt, ofBits, ofInt}
 use lib.Ieee.Fits.{down-pos}
 use lib.Ieee.Order.{round-mono}
+use Rattle.lists.proofs.Bools.{never}
 use Rattle.lists.specs.Lists.{choose, zero64}
 use Rattle.ieee.specs.Basic.{one64, clampOf, whole64}
 use Rattle.ieee_whole.specs.Whole.{roundHalfAway}
 use Rattle.ieee_whole.proofs.Round.{round-le}
 use Rattle.topo.specs.Levels.{levelOf}
-
-no : {X : Type 0} → true ≡ false → X
-no e = absurd (true≢false e)
 
 -- a rounded value with a minus has the level 0
 units-minus : (f : Format) (q k : ℕ) → roundHalfAway (units f true q k) ≡ 0
@@ -36,8 +34,8 @@ round-minus f a b = units-minus f _ _
 most : (y : Float) → lt y zero64 ≡ false → lt one64 y ≡ false → roundHalfAway (mul binary64 y (whole64 1000)) ≤ 1000
 unfolding lt ofBits mul ofInt roundHalfAway
 most nan a b = omega arith
-most (inf true) a b = no a
-most (inf false) a b = no b
+most (inf true) a b = never refl a
+most (inf false) a b = never refl b
 most (fin true m e) a b = le-trans (le-of-eq (round-minus binary64 (m * up e * 1000) (down e * 1))) (omega arith)
 most (fin false m e) a b =
     round-le (round binary64 false (m * up e * 1000) (down e * 1)) 1000 (lit≤ tt)
