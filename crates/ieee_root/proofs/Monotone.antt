@@ -7,17 +7,15 @@ use native.Mathlib.Decide.{decLe}
 use mathlib.Core.Bool.{Bool, true, false, not, true≢false}
 use lib.IntN.{ℤ, pos}
 use lib.Dec.{T, lt→ltb}
-use lib.Pow.{pow-pos, pow-lt}
-use lib.Ieee.{Float, nan, inf, fin, Format, prec, emax, low, up, down, units, isNan, le, fits}
-use lib.Ieee.Exact.{HasValue, units-val}
-use lib.Ieee.Fits.{up-pos, down-pos, nan-fits, inf-fits}
+use lib.Pow.{pow-pos}
+use lib.Ieee.{Float, nan, inf, fin, Format, low, up, down, isNan, le, fits}
+use lib.Ieee.Exact.{HasValue}
+use lib.Ieee.Fits.{up-pos, down-pos}
 use lib.Ieee.Order.{le-of-values}
-use lib.Ieee.Positive.{positive, positive-of-value, value-pos, values-of-le}
-use lib.Ieee.Scale.{overflow}
+use lib.Ieee.Positive.{value-pos, values-of-le}
 use Rattle.ieee_root.specs.Sqrt.{sqrtOf, Nearest}
-use Rattle.ieee.proofs.Order.{plusZero, Parts, le-parts, parts-le, inf-most, le-reflexive, le-transitive, le-number}
+use Rattle.ieee.proofs.Order.{plusZero, Parts, le-parts, parts-le, inf-most, le-transitive, le-number}
 use Rattle.ieee.proofs.Grid.{grid}
-use Rattle.ieee_root.proofs.Value.{units-fits}
 use Rattle.ieee_root.proofs.Nearest.{sqrt-nearest}
 
 -- ---- two roots
@@ -133,11 +131,6 @@ sqrt-mono f (fin false (suc m) e) (fin false (suc n) d) t u z h =
     nearest-mono f (p .a * 2 ^ low f) (q .a * 2 ^ low f) (sqrtOf f x) (sqrtOf f y) (p .root) (q .root)
     (values-of-le x y (p .a) (2 ^ low f) (q .a) (2 ^ low f) (lt→ltb 0 (suc m) (zero-lt-suc m)) (lt→ltb 0 (suc n) (zero-lt-suc n)) (p .value) (q .value) h)
 
--- the root of a number that is at least zero is at least zero
-pub sqrt-not-negative : (f : Format) (x : Float) → T (fits f x) → T (le plusZero x) → T (le plusZero (sqrtOf f x))
-unfolding sqrtOf fits isNan
-sqrt-not-negative f x t h = sqrt-mono f plusZero x tt t (le-reflexive plusZero tt) h
-
 -- only a number that is at least zero has a root
 pub sqrt-number : (f : Format) (x : Float) → T (not (isNan (sqrtOf f x))) → T (le plusZero x)
 unfolding sqrtOf isNan
@@ -151,38 +144,3 @@ sqrt-number f (fin false (suc m) e) h = zero-below false (pos 0) (fin false (suc
 -- a root stays at least w as its number grows: what is tested of one number then holds of all above it, whatever their signs
 pub sqrt-at-least : (f : Format) (w x y : Float) → T (fits f x) → T (fits f y) → T (le x y) → T (le w (sqrtOf f x)) → T (le w (sqrtOf f y))
 sqrt-at-least f w x y t u h k = le-transitive w (sqrtOf f x) (sqrtOf f y) k (sqrt-mono f x y t u (sqrt-number f x (le-number w (sqrtOf f x) k)) h)
-
-pub sqrt-fits : (f : Format) (x : Float) → T (fits f x) → T (fits f (sqrtOf f x))
-unfolding sqrtOf
-sqrt-fits f nan t = nan-fits f
-sqrt-fits f (inf true) t = nan-fits f
-sqrt-fits f (inf false) t = inf-fits f false
-sqrt-fits f (fin s zero e) t = t
-sqrt-fits f (fin true (suc m) e) t = nan-fits f
-sqrt-fits f (fin false (suc m) e) t = rooted f m e t .root .held .fit
-
--- the root of a finite number above zero is finite and above zero: 0 is farther from it than the smallest value
-pub sqrt-positive : (f : Format) (x : Float) → T (fits f x) → T (positive x) → T (positive (sqrtOf f x))
-sqrt-positive f nan t p = absurd p
-sqrt-positive f (inf s) t p = absurd p
-sqrt-positive f (fin true m e) t p = absurd p
-sqrt-positive f (fin false zero e) t p = absurd p
-sqrt-positive f (fin false (suc m) e) t p =
-    let x = fin false (suc m) e in
-    let r = rooted f m e t in
-    let v = r .a * 2 ^ low f in
-    let l : 0 < v = mul-pos (value-pos x (r .a) (2 ^ low f) p (pow-pos (low f)) (r .value)) (pow-pos (low f)) in
-    positive-of-value (sqrtOf f x) (r .root .n) (2 ^ low f) (r .root .held .value) (go v (r .root .n) l (r .root .over (units f false 1 0) 1 (record { fit = units-fits f 1 0 (pow-pos (prec f)) one; value = units-val f false 1 0 one })))
-  where
-    one : 1 * 2 ^ 0 < overflow f
-    one = pow-lt {i = 0} {j = low f + suc (emax f)} (wide (low f) (emax f))
-      where
-        wide : (l e : ℕ) → 0 < l + suc e
-        wide l e = omega arith
-
-    go : (v n : ℕ) → 0 < v → (n < 1 → 4 * v < (n + 1) * (n + 1)) → 0 < n
-    go v zero l h = absurd (none (h (zero-lt-suc 0)))
-      where
-        none : 4 * v < 1 → ⊥
-        none g = omega arith
-    go v (suc n) l h = zero-lt-suc n
