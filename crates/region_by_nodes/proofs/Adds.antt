@@ -9,19 +9,12 @@ use lib.Seq.{ext-getD, getD-set-same, getD-set-other}
 use lib.Dec.{eqb, ltb}
 use borrow.Author.Tests.{eqb-true, eqb-false, ltb-true, ltb-false}
 use Rattle.lists.specs.Lists.{tabulate, foldTo, anyTo, choose}
+use Rattle.lists.proofs.Bools.{or-true, or-false}
 use Rattle.lists.proofs.Laws.{length-tabulate, getD-tabulate, tabulate-same}
 
 -- the step sets the flags below n that q picks, and leaves the others
 abbrev pub Adds : ℕ → (List Bool → List Bool) → (ℕ → Bool) → Type 0
 Adds n step q = (f : ℕ → Bool) → step (tabulate f n) ≡ tabulate (λ i. f i || q i) n
-
-or-true : (a : Bool) → (a || true) ≡ true
-or-true true = refl
-or-true false = refl
-
-or-false : (a : Bool) → (a || false) ≡ a
-or-false true = refl
-or-false false = refl
 
 or-assoc : (a b c : Bool) → ((a || b) || c) ≡ (a || (b || c))
 or-assoc true b c = refl
