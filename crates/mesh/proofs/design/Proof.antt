@@ -1,16 +1,16 @@
 -- `mesh::design` meets its contract. The loop's invariant: the places of the tetrahedra passed are written, and the rest is as lent. Assumes nothing.
-use mathlib.Core.Bool.{true, false}
+use mathlib.Core.Bool.{true}
 use borrow.Author.Needs.{needs}
 use mathlib.Core.Path.{_≡_, refl, ap, sym, _∙_}
 use mathlib.Core.List.{List, []}
-use Prim.Native.Nat.{ℕ, _≤_, _<_, _-_}
+use Prim.Native.Nat.{ℕ, _≤_, _-_}
 use native.Mathlib.Omega.{arith}
 use native.Mathlib.Nat.{le-antisymm}
-use borrow.Author.Tests.{ne-eqb, ltb-false}
+use borrow.Author.Tests.{ltb-false}
 use lib.ListN.{length, getD, set, length-set}
-use lib.Dec.{eqb}
 use lib.Ieee.{Float}
 use Rattle.lists.specs.Lists.{overwrite}
+use Rattle.lists.proofs.Bools.{at-most-zero, positive-is-not-zero}
 use Rattle.lists.proofs.Laws.{overwrite-none, overwrite-more, choose-true, choose-false, passes-on, neither}
 use Rattle.mesh.specs.Mesh.{stored, volumeOf, centroidOf, designRefusal}
 use Rattle.mesh.proofs.design.Statement.{statement}
@@ -22,12 +22,6 @@ volumeAt nodes tets k = volumeOf nodes (getD tets k [])
 
 abbrev middleAt : List (List Float) → List (List ℕ) → ℕ → List Float
 middleAt nodes tets k = stored (centroidOf nodes (getD tets k []))
-
-positive : (r : ℕ) → 0 < r → eqb r 0 ≡ false
-positive r h = ne-eqb r 0 (λ (z : r ≡ 0). omega arith)
-
-none : (r : ℕ) → r ≤ 0 → r ≡ 0
-none r h = omega arith
 
 -- where nothing is refused, both lists are long enough
 long-enough : (nodes : List (List Float)) (tets : List (List ℕ)) (v m : ℕ) → designRefusal nodes tets v m ≡ 0 → (length tets ≤ v) × (length tets ≤ m)
@@ -48,12 +42,12 @@ refusal-requires c κs = tt
 returns : tie.Need-returns Inv-loop μ-loop
 returns c = record {
   refusal = c .before .refusal .ensures;
-  volumes-are = sym (choose-false _ _ _ (positive _ (c .if1 .taken)));
-  middles-are = sym (choose-false _ _ _ (positive _ (c .if1 .taken)));
+  volumes-are = sym (choose-false _ _ _ (positive-is-not-zero _ (c .if1 .taken)));
+  middles-are = sym (choose-false _ _ _ (positive-is-not-zero _ (c .if1 .taken)));
 }
 
 loop-holds : tie.Need-loop-holds Inv-loop μ-loop
-loop-holds c = let long = long-enough _ _ _ _ (sym (c .before .refusal .ensures) ∙ none _ (c .if1 .left)) in
+loop-holds c = let long = long-enough _ _ _ _ (sym (c .before .refusal .ensures) ∙ at-most-zero _ (c .if1 .left)) in
     (omega arith, long .0, long .1, refl, refl, sym (overwrite-none _ _), sym (overwrite-none _ _))
 
 mul-volume : tie.Need-mul-volume Inv-loop μ-loop
@@ -117,7 +111,7 @@ returns-2 c = let inv = c .before .loop .inv in
     let tets = args .tets .now in
     let all : c .before .loop .i ≡ length tets = le-antisymm (inv .0) (c .loop-test .left) in
     record {
-      refusal = sym (none _ (c .before .before .if1 .left)) ∙ c .before .before .before .refusal .ensures;
+      refusal = sym (at-most-zero _ (c .before .before .if1 .left)) ∙ c .before .before .before .refusal .ensures;
       volumes-are = inv .5 ∙ ap (λ (n : ℕ). overwrite (volumeAt nodes tets) n (args .volumes .now)) all ∙ sym (choose-true true _ (args .volumes .now) refl);
       middles-are = inv .6 ∙ ap (λ (n : ℕ). overwrite (middleAt nodes tets) n (args .middles .now)) all ∙ sym (choose-true true _ (args .middles .now) refl);
     }

@@ -2,8 +2,8 @@
 use mathlib.Core.Path.{_≡_, ap, sym, _∙_}
 use mathlib.Core.List.{[]}
 use lib.ListN.{getD, List·getD-eq-default}
+use Rattle.lists.proofs.Laws.{getD-any}
 use Rattle.mesh.specs.Mesh.{point, stored, origin, nodeAt}
-use Rattle.mesh.proofs.Laws.{getD-default}
 use borrow.Author.Needs.{needs}
 use Rattle.mesh.proofs.node.Statement.{statement}
 use Rattle.mesh.proofs.node.Tie as tie
@@ -20,7 +20,7 @@ point-requires c κs = search needs
 returns : tie.Need-returns
 unfolding nodeAt
 returns c = let args = c .before .before .before .args in
-    c .point .ensures ∙ ap point (getD-default (args .nodes .now) (args .n) [] (stored origin) (c .before .before .if1 .taken))
+    c .point .ensures ∙ ap point (getD-any (args .nodes .now) (args .n) [] (stored origin) (c .before .before .if1 .taken))
 
 origin-requires : tie.Need-origin-requires
 origin-requires c κs = search needs

@@ -1,2 +1,0 @@
--- `Laws` has a law of lists.
-mod Laws
