@@ -12,7 +12,7 @@ use borrow.Author.Tests.{le-leb, lt-leb, eq-eqb, ne-eqb, lt-ltb, le-ltb}
 use Rattle.lists.proofs.Bools.{never, eq-or-ne, le-or-lt}
 use Rattle.cells.specs.Cells.{changed, within}
 use Rattle.cells.specs.Filing.{Filed}
-use Rattle.cells.proofs.Changed.{Grows, and-false, length-changed, is-changed, changed-more, changed-none, changed-same}
+use Rattle.cells.proofs.Changed.{Grows, and-false, is-changed, changed-more, changed-none, changed-same}
 
 -- ---- a range
 
@@ -96,6 +96,3 @@ module _ {A : Type 0} (cells : List (List ℕ)) (order first : List ℕ) (m : �
       go : (j : ℕ) (t : Bool) → p j ≡ t → (within a b (f .place j) && t) ≡ t
       go j true e = rw (within-holds a b (f .place j) (all j e .0) (all j e .1))
       go j false e = and-false (within a b (f .place j))
-
-  pub walk-length : (k : ℕ) (w : List A) (f : Filed cells order first m) → Walked cells order first m p g w₀ a k w → length w ≡ length w₀
-  walk-length k w f inv = ap length (inv f) ∙ length-changed _ g w₀
