@@ -1,30 +1,15 @@
 -- The products depend only on what the rows use: a well formed table and one that begins with the same n + 1 starts and the same places have
 -- the same products, so lists may be lent longer. Row by row, by the agreement of folds. Assumes nothing.
-use mathlib.Core.Path.{_≡_, refl, ap, _∙_}
+use mathlib.Core.Path.{_≡_}
 use mathlib.Core.List.{List, _++_}
-use Prim.Native.Nat.{ℕ, zero, suc, _+_, _-_, _≤_, _<_}
+use Prim.Native.Nat.{ℕ, _+_, _-_, _≤_, _<_}
 use native.Mathlib.Omega.{arith}
 use lib.ListN.{length, getD, take, length-append, List·getD-append}
 use lib.Seq.{getD-take, length-take-le}
-use lib.Ieee.{Float, nan, binary64, add}
-use Rattle.lists.specs.Lists.{foldTo, foldOver, sumOver, zero64}
+use lib.Ieee.{Float, nan}
 use Rattle.filter_table.specs.Table.{rowEnd, product, rowSum, applied, addTo, rowShare, backed, Wf}
-use Rattle.lists.proofs.Laws.{tabulate-same}
+use Rattle.lists.proofs.Laws.{tabulate-same, foldTo-same, foldOver-same, sumOver-same}
 use Rattle.filter_table.proofs.Laws.{rowEnd-within, wf-row, rises}
-
--- two ways to change a state that agree at the indices passed
-foldTo-same : {A : Type 0} (f g : ℕ → A → A) (x : A) (n : ℕ) → ((k : ℕ) → k < n → (s : A) → f k s ≡ g k s) → foldTo f x n ≡ foldTo g x n
-unfolding foldTo
-foldTo-same f g x zero h = refl
-foldTo-same f g x (suc n) h = ap (f n) (foldTo-same f g x n (λ k l. h k (omega arith))) ∙ h n (omega arith) (foldTo g x n)
-
-foldOver-same : {A : Type 0} (f g : ℕ → A → A) (x : A) (a b : ℕ) → ((k : ℕ) → k < b → (s : A) → f k s ≡ g k s) → foldOver f x a b ≡ foldOver g x a b
-unfolding foldOver
-foldOver-same f g x a b h = foldTo-same (λ j. f (a + j)) (λ j. g (a + j)) x (b - a) (λ k l. h (a + k) (omega arith))
-
-sumOver-same : (f g : ℕ → Float) (a b : ℕ) → ((k : ℕ) → k < b → f k ≡ g k) → sumOver f a b ≡ sumOver g a b
-unfolding sumOver
-sumOver-same f g a b h = foldOver-same (λ k t. add binary64 t (f k)) (λ k t. add binary64 t (g k)) zero64 a b (λ k l t. ap (add binary64 t) (h k l))
 
 -- the second table begins with what the n rows of the first use
 pub record Begins (starts near : List ℕ) (coef : List Float) (starts′ near′ : List ℕ) (coef′ : List Float) (n : ℕ) : Type 0 where

@@ -1,19 +1,19 @@
 -- The laws of `specs/Table.antt`. Assumes nothing.
 use mathlib.Core.Path.{_≡_, refl, ap, _∙_}
 use mathlib.Core.Bool.{Bool, true, false, _&&_}
-use mathlib.Core.List.{List, []}
+use mathlib.Core.List.{List}
 use mathlib.Core.Logic.{⊎-elim}
 use Prim.Native.Nat.{ℕ, zero, suc, _+_, _-_, _≤_, _<_}
 use native.Mathlib.Omega.{arith}
 use native.Mathlib.Nat.{le-of-suc-le-suc, eq-or-lt-of-le}
 use native.Mathlib.Numerals.{add-one}
-use lib.ListN.{length, getD, length-set}
+use lib.ListN.{length, getD}
 use lib.Ieee.{Float}
 use lib.Dec.{ltb, leb}
 use borrow.Author.Tests.{ltb-true, ltb-false, leb-true, leb-false, lt-ltb, le-ltb, le-leb, lt-leb, not-true}
-use Rattle.lists.specs.Lists.{tabulate, foldOver, zero64, anyTo, choose}
-use Rattle.lists.proofs.Laws.{length-tabulate, getD-tabulate, tabulate-same, foldOver-none, foldOver-more, foldTo-keeps, sumOver-none, any-not, both, choose-true}
-use Rattle.filter_table.specs.Table.{rowEnd, rowSum, applied, addTo, rowShare, backed, Within, Wf, wellOf}
+use Rattle.lists.specs.Lists.{foldOver, anyTo, choose}
+use Rattle.lists.proofs.Laws.{foldOver-more, any-not, both, choose-true}
+use Rattle.filter_table.specs.Table.{rowEnd, Within, Wf, wellOf}
 
 -- ---- lists
 
@@ -26,11 +26,6 @@ four-turns {A} f x a k h =
     ∙ ap (λ (t : A). f (k + 3) (f (k + 2) t)) (more 1 2 (omega arith))
     ∙ ap (f (k + 3)) (more 2 3 (omega arith))
     ∙ more 3 4 (omega arith)
-
--- what a turn keeps, the loop keeps
-pub foldOver-keeps : {A : Type 0} (P : A → Type 0) (f : ℕ → A → A) (x : A) → ((k : ℕ) (s : A) → P s → P (f k s)) → P x → (a b : ℕ) → P (foldOver f x a b)
-unfolding foldOver
-foldOver-keeps P f x keep p a b = foldTo-keeps P (λ j. f (a + j)) x (λ k. keep (a + k)) p (b - a)
 
 -- p fails at each index below n
 pub any-fails : (p : ℕ → Bool) (n : ℕ) → ((k : ℕ) → k < n → p k ≡ false) → anyTo p n ≡ false
@@ -61,50 +56,6 @@ module _ (near : List ℕ) (coef : List Float) (a b : ℕ) where
   -- a place of the row is within both lists
   pub rowEnd-room : (k : ℕ) → a ≤ k → k < rowEnd near coef a b → (k < length near) × (k < length coef)
   rowEnd-room k h = rowEnd-split (λ t. k < t → (k < length near) × (k < length coef)) (λ o n c l. (omega arith, omega arith)) (λ l. absurd (omega arith))
-
-  -- an empty row sums to 0.0 and shares nothing out
-  pub rowSum-none : (x : List Float) → rowEnd near coef a b ≡ a → rowSum near coef x a b ≡ zero64
-  unfolding rowSum
-  rowSum-none x e = sumOver-none _ a _ (omega arith)
-
-  pub rowShare-none : (v : Float) (out : List Float) → rowEnd near coef a b ≡ a → rowShare near coef v a b out ≡ out
-  unfolding rowShare
-  rowShare-none v out e = foldOver-none _ out a _ (omega arith)
-
--- a row over no places
-rowEnd-nil : (coef : List Float) (a b : ℕ) → rowEnd [] coef a b ≡ a
-rowEnd-nil coef a b = rowEnd-split [] coef a b (λ t. t ≡ a) (λ h n c. omega arith) refl
-
--- ---- the products
-module _ (starts near : List ℕ) (coef : List Float) where
-  pub length-applied : (x : List Float) (n : ℕ) → length (applied starts near coef x n) ≡ n
-  unfolding applied
-  length-applied x n = length-tabulate _ n
-
-  pub applied-at : (x : List Float) (n e : ℕ) (d : Float) → e < n → getD (applied starts near coef x n) e d ≡ rowSum near coef x (getD starts e 0) (getD starts (e + 1) 0)
-  unfolding applied
-  applied-at x n e d h = getD-tabulate _ n e d h
-
-  length-addTo : (v : Float) (k : ℕ) (out : List Float) → length (addTo near coef v k out) ≡ length out
-  unfolding addTo
-  length-addTo v k out = length-set out _ _
-
-  pub length-rowShare : (v : Float) (a b : ℕ) (out : List Float) → length (rowShare near coef v a b out) ≡ length out
-  unfolding rowShare
-  length-rowShare v a b out = foldOver-keeps (λ l. length l ≡ length out) (addTo near coef v) out (λ k l h. length-addTo v k l ∙ h) refl a (rowEnd near coef a b)
-
-  pub length-backed : (g : List Float) (n m : ℕ) → length (backed starts near coef g n m) ≡ m
-  unfolding backed
-  length-backed g n m = foldTo-keeps (λ l. length l ≡ m) _ _ (λ e l h. length-rowShare _ _ _ l ∙ h) (length-tabulate _ m) n
-
--- over a table with no places every product is 0.0
-pub applied-none : (starts : List ℕ) (coef x : List Float) (n : ℕ) → applied starts [] coef x n ≡ tabulate (λ _. zero64) n
-unfolding applied
-applied-none starts coef x n = tabulate-same _ _ n (λ e h. rowSum-none [] coef _ _ x (rowEnd-nil coef _ _))
-
-pub backed-none : (starts : List ℕ) (coef g : List Float) (n m : ℕ) → backed starts [] coef g n m ≡ tabulate (λ _. zero64) m
-unfolding backed
-backed-none starts coef g n m = foldTo-keeps (λ l. l ≡ tabulate (λ _. zero64) m) _ _ (λ e l h. rowShare-none [] coef _ _ _ l (rowEnd-nil coef _ _) ∙ h) refl n
 
 -- ---- well formed
 module _ (starts near : List ℕ) (coef : List Float) (n m : ℕ) where
