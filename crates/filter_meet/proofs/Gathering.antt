@@ -9,6 +9,7 @@ use lib.Dec.{eqb}
 use borrow.Author.Tests.{eq-eqb}
 use lib.Ieee.{Float, nan, binary64, add}
 use Rattle.lists.specs.Lists.{anyTo, choose, zero64}
+use Rattle.lists.proofs.Bools.{or-true, or-false}
 use Rattle.lists.proofs.Laws.{foldTo-more, any-step}
 use Rattle.geom.specs.declared.Vec3.{Vec3}
 use Rattle.cells.proofs.Changed.{getD-changed}
@@ -23,15 +24,7 @@ cond-choose false a b = refl
 -- a mark put where the test holds
 cond-mark : (t : Bool) (mark old : ℕ) → eqb (cond t mark old) mark ≡ (eqb old mark || t)
 cond-mark true mark old = eq-eqb mark mark refl ∙ sym (or-true (eqb old mark))
-  where
-    or-true : (a : Bool) → (a || true) ≡ true
-    or-true true = refl
-    or-true false = refl
 cond-mark false mark old = sym (or-false (eqb old mark))
-  where
-    or-false : (a : Bool) → (a || false) ≡ a
-    or-false true = refl
-    or-false false = refl
 
 cond-most : (t : Bool) (mark old : ℕ) → old ≤ mark → cond t mark old ≤ mark
 cond-most true mark old h = omega arith

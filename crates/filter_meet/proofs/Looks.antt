@@ -1,9 +1,8 @@
 -- A look at one element: what its distance is, and what is left where it is met and where it is not. Assumes nothing.
-use mathlib.Core.Path.{_≡_, refl, sym, ap, _∙_}
-use mathlib.Core.Bool.{Bool, true, false, _&&_}
+use mathlib.Core.Path.{_≡_, sym, ap, _∙_}
+use mathlib.Core.Bool.{Bool, true, false}
 use mathlib.Core.List.{List}
 use Prim.Native.Nat.{ℕ}
-use native.Mathlib.Omega.{arith}
 use lib.ListN.{getD, set}
 use lib.Dec.{T}
 use lib.Ieee.{Float, nan, binary64, add, mul, fits, le, lt}
@@ -27,18 +26,6 @@ len2-fits v = add-fits binary64 (add binary64 (mul binary64 (v .x) (v .x)) (mul 
 pub far : (radius limit : Float) (q p : Vec3) (d : Float) → Settles radius limit → d ≡ len2 (less q p) → le limit d ≡ true → lt (dist q p) radius ≡ false
 unfolding Settles
 far radius limit q p d s e h = rw (sym (dist-is q p d e)) (rw (sym e) at (s (len2 (less q p)) (len2-fits (less q p)) (rw e at h)))
-
-pub not-first : (a b : Bool) → a ≡ false → (a && b) ≡ false
-not-first true b e = absurd (let z : _≡_ {A = ℕ} 0 1 = cc in omega arith)
-not-first false b e = refl
-
-pub not-second : (a b : Bool) → b ≡ false → (a && b) ≡ false
-not-second true b e = e
-not-second false b e = refl
-
-pub both-hold : (a b : Bool) → a ≡ true → b ≡ true → (a && b) ≡ true
-both-hold true b e h = h
-both-hold false b e h = absurd (let z : _≡_ {A = ℕ} 0 1 = cc in omega arith)
 
 module _ (seen : Bool) (i : ℕ) (w : Float) (mark : ℕ) (stamp : List ℕ) (weight : List Float) where
   pub looked-past : (count : ℕ) → seen ≡ false → count ≡ marked stamp mark → Looked seen i w mark stamp weight stamp weight count

@@ -7,6 +7,7 @@ use native.Mathlib.Omega.{arith}
 use lib.ListN.{length, getD}
 use lib.Ieee.{Float, nan, lt}
 use borrow.Author.Tests.{lt-ltb}
+use Rattle.lists.proofs.Bools.{and-left-false}
 use Rattle.geom.specs.declared.Vec3.{Vec3}
 use Rattle.cells.specs.Cells.{axis, inBlock, cellAt, cellOf}
 use Rattle.cells.proofs.Changed.{Grows, grows-over, changed-none, changed-more, changed-same, length-changed}
@@ -14,7 +15,6 @@ use Rattle.cells.proofs.Boxes.{grows-x, grows-y, none-x, none-y, block-box}
 use Rattle.filter.specs.Filter.{middle, lowest, highest, outside, nearCubes, counts}
 use Rattle.filter_meet.specs.Steps.{Ready, Lists, marked, nearer, nearBox, Took}
 use Rattle.filter.specs.declared.grid.Grid.{Grid}
-use Rattle.filter_meet.proofs.Looks.{not-first}
 
 module _ (gain : ℕ → Float → Float) (mark : ℕ) (stamp₀ : List ℕ) (weight₀ : List Float) where
   pub took-none : (p : ℕ → Bool) (count : ℕ) → ((j : ℕ) → p j ≡ false) → count ≡ marked stamp₀ mark → Took p gain mark stamp₀ weight₀ stamp₀ weight₀ count
@@ -61,10 +61,10 @@ module _ (centroids : List (List Float)) (g : Grid) (q : Vec3) (cell : List (Lis
   near-grows-y x0 x1 y0 k z0 z1 le i = grows-over (nearer centroids (g .radius) q i) _ _ _ (grows-y cell x0 x1 y0 k z0 z1 le i)
 
   pub near-none-x : (x0 y0 y1 z0 z1 i : ℕ) → nearBox centroids g q cell x0 x0 y0 y1 z0 z1 i ≡ false
-  near-none-x x0 y0 y1 z0 z1 i = not-first _ _ (none-x cell x0 y0 y1 z0 z1 i)
+  near-none-x x0 y0 y1 z0 z1 i = and-left-false _ _ (none-x cell x0 y0 y1 z0 z1 i)
 
   pub near-none-y : (x0 x1 y0 z0 z1 i : ℕ) → nearBox centroids g q cell x0 x1 y0 y0 z0 z1 i ≡ false
-  near-none-y x0 x1 y0 z0 z1 i = not-first _ _ (none-y cell x0 x1 y0 z0 z1 i)
+  near-none-y x0 x1 y0 z0 z1 i = and-left-false _ _ (none-y cell x0 x1 y0 z0 z1 i)
 
 -- ---- what counts for an image
 

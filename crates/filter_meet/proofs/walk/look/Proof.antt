@@ -6,12 +6,13 @@ use mathlib.Core.List.{[]}
 use lib.ListN.{getD}
 use lib.Ieee.{Float, binary64, sub, lt}
 use denote.Ref.{now}
+use Rattle.lists.proofs.Bools.{and-left-false, and-right-false, and-true}
 use Rattle.geom.specs.Vectors.{dist}
 use Rattle.geom.specs.declared.Vec3.{Vec3}
 use Rattle.cells.specs.Cells.{axis, boxCell}
 use Rattle.filter.specs.Group.{point}
 use Rattle.filter_meet.specs.Steps.{leftOver, Looked}
-use Rattle.filter_meet.proofs.Looks.{dist-is, far, not-first, not-second, both-hold, looked-past, looked-met}
+use Rattle.filter_meet.proofs.Looks.{dist-is, far, looked-past, looked-met}
 use borrow.Author.Needs.{needs}
 use Rattle.filter_meet.proofs.walk.look.Statement.{statement}
 use Rattle.filter_meet.proofs.walk.look.Tie as tie
@@ -53,7 +54,7 @@ dist2-requires c κs = search needs
 returns : tie.Need-returns
 returns c = let s = c .before .before .before .before .before .before .before in
     let g = s .args .g in
-    past s (not-second (inColumn s) (isNear s) (far (g .radius) (g .limit) (s .args .q) (there s) (c .before .dist2 .result) (s .pre .0 .0) (c .before .dist2 .ensures) (c .if1 .taken)))
+    past s (and-right-false (inColumn s) (isNear s) (far (g .radius) (g .limit) (s .args .q) (there s) (c .before .dist2 .result) (s .pre .0 .0) (c .before .dist2 .ensures) (c .if1 .taken)))
 
 mul-i : tie.Need-mul-i
 mul-i c = search needs
@@ -104,17 +105,17 @@ returns-2 c = let s = c .before .before .before .before .before .before .before 
     let d : c .before .before .before .before .before .before .before .before .before .before .before .sqrt .result ≡ dist (a .q) (there s) = c .before .before .before .before .before .before .before .before .before .before .before .sqrt .ensures ∙ dist-is (a .q) (there s) (c .before .before .before .before .before .before .before .before .before .before .before .before .before .before .before .before .before .dist2 .result) (c .before .before .before .before .before .before .before .before .before .before .before .before .before .before .before .before .before .dist2 .ensures) in
     looked-met (seen s) (number s) (leftOver g (a .q) (a .k) (now (a .sorted))) (a .mark) (now (a .stamp)) (now (a .weight))
     (sub binary64 (g .radius) (c .before .before .before .before .before .before .before .before .before .before .before .sqrt .result)) (c .before .before .before .before .before .before .touch .last .1 .1 .1 .1 .0) (c .before .before .before .before .before .before .touch .last .1 .1 .1 .1 .1 .0) (c .before .before .before .before .before .before .touch .result)
-    (both-hold (inColumn s) (isNear s) (sym (c .before .before .before .before .before .before .before .before .before .before .before .before .before .in-column .ensures) ∙ c .before .before .before .before .before .before .before .before .before .before .before .before .if2 .taken) (ap (λ (v : Float). lt v (g .radius)) (sym d) ∙ c .before .before .before .before .before .before .before .before .before .before .if3 .taken))
+    (and-true (inColumn s) (isNear s) (sym (c .before .before .before .before .before .before .before .before .before .before .before .before .before .in-column .ensures) ∙ c .before .before .before .before .before .before .before .before .before .before .before .before .if2 .taken) (ap (λ (v : Float). lt v (g .radius)) (sym d) ∙ c .before .before .before .before .before .before .before .before .before .before .if3 .taken))
     (ap (sub binary64 (g .radius)) d) (c .before .before .before .before .before .before .touch .ensures)
 
 returns-3 : tie.Need-returns-3
 returns-3 c = let s = c .before .before .before .before .before .before .before .before .before .before .before .before .before in
     let a = s .args in
     let d : c .before .sqrt .result ≡ dist (a .q) (there s) = c .before .sqrt .ensures ∙ dist-is (a .q) (there s) (c .before .before .before .before .before .before .before .dist2 .result) (c .before .before .before .before .before .before .before .dist2 .ensures) in
-    past s (not-second (inColumn s) (isNear s) (ap (λ (v : Float). lt v (a .g .radius)) (sym d) ∙ c .if3 .left))
+    past s (and-right-false (inColumn s) (isNear s) (ap (λ (v : Float). lt v (a .g .radius)) (sym d) ∙ c .if3 .left))
 
 returns-4 : tie.Need-returns-4
-returns-4 c = past (c .before .before .before .before .before .before .before .before .before .before .before) (not-first (inColumn (c .before .before .before .before .before .before .before .before .before .before .before)) (isNear (c .before .before .before .before .before .before .before .before .before .before .before)) (sym (c .before .in-column .ensures) ∙ c .if2 .left))
+returns-4 c = past (c .before .before .before .before .before .before .before .before .before .before .before) (and-left-false (inColumn (c .before .before .before .before .before .before .before .before .before .before .before)) (isNear (c .before .before .before .before .before .before .before .before .before .before .before)) (sym (c .before .in-column .ensures) ∙ c .if2 .left))
 
 pub look-spec : {M : Type 1} → statement M
 look-spec =
