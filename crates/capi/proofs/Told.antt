@@ -2,7 +2,7 @@
 use mathlib.Core.Path.{_≡_, ap, subst, _∙_}
 use mathlib.Core.List.{List}
 use lib.Ieee.{Float}
-use Rattle.oc.specs.declared.kept.Rule.{Rule}
+use Rattle.oc_kept.specs.declared.Rule.{Rule}
 use Rattle.update.specs.declared.Updated.{Updated}
 use Rattle.update_rates.specs.Rates.{Given, updated}
 use Rattle.update.specs.Update.{Done}

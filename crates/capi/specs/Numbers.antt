@@ -5,15 +5,15 @@ use Prim.Native.Nat.{ℕ}
 use lib.Dec.{eqb}
 use lib.Ieee.{Float}
 use Rattle.lists.specs.Lists.{choose, zero64}
-use Rattle.oc.specs.declared.seen.Sharpness.{Sharpness}
-use Rattle.oc.specs.declared.seen.Sharpness.the-variants.{Off, At}
-use Rattle.oc.specs.declared.kept.Rule.{Rule}
-use Rattle.oc.specs.declared.kept.Rule.the-variants.{Straight, Sharpened}
+use Rattle.oc_seen.specs.declared.Sharpness.{Sharpness}
+use Rattle.oc_seen.specs.declared.Sharpness.the-variants.{Off, At}
+use Rattle.oc_kept.specs.declared.Rule.{Rule}
+use Rattle.oc_kept.specs.declared.Rule.the-variants.{Straight, Sharpened}
 use Rattle.update_rates.specs.Rates.{Given, updated}
 use Rattle.update.specs.declared.Updated.{Updated}
-use Rattle.update.specs.declared.Ending.{Ending}
-use Rattle.update.specs.declared.Ending.the-variants.{Met, Cramped, Spent}
-use Rattle.update.specs.Update.{endingOf}
+use Rattle.topo.specs.declared.Ending.{Ending}
+use Rattle.topo.specs.declared.Ending.the-variants.{Met, Cramped, Spent}
+use Rattle.update_rates.specs.Ending.{endingOf}
 use Rattle.capi.specs.declared.updates.Update.{Update}
 
 -- beta counts where the densities are sharpened

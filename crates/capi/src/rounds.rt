@@ -6,16 +6,17 @@ ghost use lib.ListN.{length, getD};
 ghost use lib.Dec.{eqb, ltb};
 ghost use lib.Ieee.{nan};
 ghost use Rattle.lists.specs.Lists.{sumTo, zero64};
-ghost use Rattle.oc.specs.Start.{noRoom, solidVolume, freeVolumes, targetOf, toleranceOf, startDensity, startDesign};
-ghost use Rattle.oc.specs.Project.{projected, projectedSlope};
-ghost use Rattle.oc.specs.Seen.{seenDensity, seenSlope};
-ghost use Rattle.oc.specs.Slopes.{workSlope, volumeSlope};
-ghost use Rattle.oc.specs.Kept.{keptOf};
-ghost use Rattle.oc.specs.Record.{complianceOf, fractionOf, changeOf, greyOf};
+ghost use Rattle.oc_goal.specs.Goal.{noRoom, targetOf, toleranceOf, startDensity};
+ghost use Rattle.oc_start.specs.Start.{solidVolume, freeVolumes, startDesign};
+ghost use Rattle.oc_project.specs.Project.{projected, projectedSlope};
+ghost use Rattle.oc_seen.specs.Seen.{seenDensity, seenSlope};
+ghost use Rattle.oc_slopes.specs.Slopes.{workSlope, volumeSlope};
+ghost use Rattle.oc_kept.specs.Kept.{keptOf};
+ghost use Rattle.oc_record.specs.Record.{complianceOf, fractionOf, changeOf, greyOf};
 ghost use Rattle.capi.specs.Lent.{refusalOf, unless, left, Used};
 ghost use Rattle.capi.specs.Numbers.{sharpnessOf, ruleOf};
-use oc::kept::Rule;
-use oc::seen::Sharpness;
+use oc_kept::Rule;
+use oc_seen::Sharpness;
 
 #[repr(C)]
 pub struct Projected {
@@ -46,7 +47,7 @@ pub struct Kept {
 pub extern "C" fn sokdrib_no_room(solid: f64, total: f64, target: f64) -> bool
     ensures { λ r. ⌜ r ≡ noRoom solid total target ⌝ }
 {
-    oc::start::no_room(solid, total, target)
+    oc_goal::no_room(solid, total, target)
 }
 
 // Where a run starts: the first design, each element's volume where it is not held solid, and the numbers of the whole run.
@@ -76,12 +77,12 @@ pub extern "C" fn sokdrib_start(
         };
     }
     let total = lists::sum(volumes);
-    let solid = oc::start::solid_volume(volumes, passive);
-    let target = oc::start::target(fraction, total);
-    let tolerance = oc::start::tolerance(total);
-    let density = oc::start::start_density(solid, total, target);
-    oc::start::start_design(passive, density, &mut design[..n]);
-    oc::start::free_volumes(volumes, passive, &mut free[..n]);
+    let solid = oc_start::solid_volume(volumes, passive);
+    let target = oc_goal::target(fraction, total);
+    let tolerance = oc_goal::tolerance(total);
+    let density = oc_goal::start_density(solid, total, target);
+    oc_start::start_design(passive, density, &mut design[..n]);
+    oc_start::free_volumes(volumes, passive, &mut free[..n]);
     Start {
         refused: 0,
         total,
@@ -97,7 +98,7 @@ pub extern "C" fn sokdrib_start(
 pub extern "C" fn sokdrib_project(v: f64, beta: f64) -> Projected
     ensures { λ r. ⌜ (r .density ≡ projected beta v) × (r .slope ≡ projectedSlope beta v) ⌝ }
 {
-    let p = oc::seen::project(oc::seen::at_steepness(beta), v);
+    let p = oc_project::project(oc_project::at_steepness(beta), v);
     Projected {
         density: p.density,
         slope: p.slope,
@@ -138,7 +139,7 @@ pub extern "C" fn sokdrib_see(
         return refused;
     }
     let s = sharpness(sharpen, beta);
-    oc::seen::see(
+    oc_seen::see(
         starts,
         near,
         coef,
@@ -262,7 +263,7 @@ pub extern "C" fn sokdrib_kept(
         };
     }
     let rule = rule_of(rule, value);
-    let volume = oc::kept::kept(
+    let volume = oc_kept::kept(
         rule,
         straight,
         false,
@@ -282,7 +283,7 @@ pub extern "C" fn sokdrib_kept(
 pub extern "C" fn sokdrib_compliance(energies: &[f64]) -> f64
     ensures { λ r. ⌜ r ≡ complianceOf (now (energies .entry)) ⌝ }
 {
-    oc::record::compliance(energies)
+    oc_record::compliance(energies)
 }
 
 // The share of the total volume that the densities keep, as far as both lists go.
@@ -290,7 +291,7 @@ pub extern "C" fn sokdrib_compliance(energies: &[f64]) -> f64
 pub extern "C" fn sokdrib_fraction(volumes: &[f64], density: &[f64], total: f64) -> f64
     ensures { λ r. ⌜ r ≡ fractionOf (now (volumes .entry)) (now (density .entry)) total ⌝ }
 {
-    oc::record::fraction(volumes, density, total)
+    oc_record::fraction(volumes, density, total)
 }
 
 // The most that any element changed, as far as both lists go.
@@ -298,7 +299,7 @@ pub extern "C" fn sokdrib_fraction(volumes: &[f64], density: &[f64], total: f64)
 pub extern "C" fn sokdrib_change(next: &[f64], x: &[f64]) -> f64
     ensures { λ r. ⌜ r ≡ changeOf (now (next .entry)) (now (x .entry)) ⌝ }
 {
-    oc::record::change(next, x)
+    oc_record::change(next, x)
 }
 
 // How far from solid or empty the densities are, as far as both lists go: total is the volume that is not held solid.
@@ -306,5 +307,5 @@ pub extern "C" fn sokdrib_change(next: &[f64], x: &[f64]) -> f64
 pub extern "C" fn sokdrib_grey(density: &[f64], free: &[f64], total: f64) -> f64
     ensures { λ r. ⌜ r ≡ greyOf (now (density .entry)) (now (free .entry)) total ⌝ }
 {
-    oc::record::grey(density, free, total)
+    oc_record::grey(density, free, total)
 }

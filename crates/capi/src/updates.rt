@@ -7,7 +7,7 @@ ghost use Rattle.update_design.specs.Design.{gainsOf};
 ghost use Rattle.update_rates.specs.Rates.{updated};
 ghost use Rattle.capi.specs.Lent.{refusalOf, unless, left, Used};
 ghost use Rattle.capi.specs.Numbers.{ruleOf, endingNumber, endingFirst, endingSecond, toldOf, refusedWith, answerOf};
-use update::Ending;
+use topo::Ending;
 
 // How an update ended, or the number of a refusal and zeros. Ending 0: met, with the kept volume first. 1: cramped, with the lower and the
 // upper rate of its bracket. 2: spent, with the kept volume first.

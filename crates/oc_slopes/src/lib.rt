@@ -1,7 +1,7 @@
 // How the work of the loads and the volume kept go with each design value, through the sharpening and the filter in turn (`work_slope` and `volume_slope` of oc.rs).
 ghost use mathlib.Core.Path.{_≡_};
 ghost use lib.ListN.{length};
-ghost use Rattle.oc.specs.Slopes.{elementWork, workByDensity, volumeByDensity, workSlope, volumeSlope, straightSlope};
+ghost use Rattle.oc_slopes.specs.Slopes.{elementWork, workByDensity, volumeByDensity, workSlope, volumeSlope, straightSlope};
 
 // An element's stiffness goes with its density cubed; the energy that it holds was worked out at its level's stiffness.
 fn element_work(x: f64, s: f64, u: f64) -> f64

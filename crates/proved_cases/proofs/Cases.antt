@@ -10,15 +10,15 @@ use Rattle.geom.specs.Vectors as Vectors
 use Rattle.cells.specs.Cells as Cells
 use Rattle.filter.specs.Group as Group
 use Rattle.filter.specs.Filter as Filter
-use Rattle.oc.specs.Start as Start
+use Rattle.oc_start.specs.Start as Start
 use Rattle.run_plain.specs.Formulas as Formulas
 use Rattle.run_plain.specs.Opening as Opening
-use Rattle.oc.specs.Project.{half}
+use Rattle.update_rates.specs.Rates.{half}
 use Rattle.run_plain.specs.declared.Entry.the-variants.{Kept}
 use Rattle.geom.proofs.Cases.{image-in-x}
 use Rattle.faces.proofs.Cases.{above-a-corner, above-the-face}
 use Rattle.topo.proofs.Cases.{level-of-half, level-of-minus-three, level-of-seven}
-use Rattle.oc.proofs.Cases.{projection-ends}
+use Rattle.oc_project.proofs.Cases.{projection-ends}
 use Rattle.region_off_centre.proofs.Cases.{reaches-one-and-none, even-at-half}
 use Rattle.update_rates.proofs.Cases.{nan-slope}
 use Rattle.proved_cases.specs.Cases.{ProvedCases, OwnRows, twoFree}

@@ -12,8 +12,9 @@ use Rattle.geom.specs.declared.Vec3.{Vec3}
 use Rattle.geom.specs.declared.Mirror.{Mirror}
 use Rattle.faces.specs.Triangle.{dist2ToTriangle}
 use Rattle.topo.specs.Levels.{levelOf}
-use Rattle.oc.specs.Project.{half, stages, projected}
-use Rattle.update_design.specs.Design.{gainOf, nextOf}
+use Rattle.update_rates.specs.Rates.{half}
+use Rattle.oc_project.specs.Project.{stages, projected}
+use Rattle.update_value.specs.Value.{gainOf, nextOf}
 use Rattle.region_off_centre.specs.OffCentre.{offCentreOf}
 use Rattle.region_off_centre.specs.declared.Balance.the-variants.{Even, Reaches}
 use Rattle.run_plain.specs.declared.Entry.the-variants.{Kept}

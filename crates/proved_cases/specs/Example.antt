@@ -10,7 +10,7 @@ use Rattle.lists.specs.Lists.{zero64}
 use Rattle.ieee.specs.Basic.{one64}
 use Rattle.topo.specs.declared.Iteration.{Iteration}
 use Rattle.topo.specs.declared.Stop.the-variants.{Limit}
-use Rattle.oc.specs.Project.{half}
+use Rattle.update_rates.specs.Rates.{half}
 use Rattle.shape_solver.specs.Energies.{energiesOf}
 use Rattle.shape_report.specs.Report.{ascii, ran, textOf}
 use Rattle.strip.specs.declared.Answer.the-variants.{Read}

@@ -80,7 +80,7 @@ pub fn dist2_to_triangle() -> bool {
 pub fn project() -> bool {
     let v = number();
     let beta = number();
-    let r = oc::seen::project(oc::seen::at_steepness(beta), v);
+    let r = oc_project::project(oc_project::at_steepness(beta), v);
     let density = number();
     let slope = number();
     same(r.density, density) & same(r.slope, slope)
@@ -90,5 +90,5 @@ pub fn no_room() -> bool {
     let solid = number();
     let total = number();
     let target = number();
-    oc::start::no_room(solid, total, target) == (word() != 0)
+    oc_goal::no_room(solid, total, target) == (word() != 0)
 }

@@ -1,6 +1,6 @@
 // One case of an update, of 12 elements and 48 entries: design, slopes of work and volume, marks, the move, target, tolerance, whether it is
 // sharpened with its steepness or the volume held solid, the table, volumes; then how it ended, the passes and the design, as the Rust gave them.
-use oc::kept::Rule;
+use oc_kept::Rule;
 use replay_sample::read::are;
 use replay_sample::read::counts;
 use replay_sample::read::flags;
@@ -8,7 +8,7 @@ use replay_sample::read::floats;
 use replay_sample::words::number;
 use replay_sample::words::same;
 use replay_sample::words::word;
-use update::Ending;
+use topo::Ending;
 
 fn rule() -> Rule {
     let sharpened = word() != 0;

@@ -13,9 +13,9 @@ use Rattle.lists.proofs.Laws.{neither}
 use Rattle.topo.specs.declared.Iteration.{Iteration}
 use Rattle.topo.specs.declared.Stop.{Stop}
 use Rattle.topo.specs.declared.Stop.the-variants.{Stopped}
-use Rattle.oc.specs.declared.seen.Sharpness.the-variants.{Off, At}
-use Rattle.oc.specs.Seen.{seenDensity}
-use Rattle.oc.specs.Record.{complianceOf}
+use Rattle.oc_seen.specs.declared.Sharpness.the-variants.{Off, At}
+use Rattle.oc_seen.specs.Seen.{seenDensity}
+use Rattle.oc_record.specs.Record.{complianceOf}
 use Rattle.run_plain.specs.declared.State.{State}
 use Rattle.run_plain.specs.declared.Reply.{Reply}
 use Rattle.run_plain.specs.declared.Reply.the-variants.{Refused, Round, Stop as StopReply}

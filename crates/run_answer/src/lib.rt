@@ -122,7 +122,7 @@ pub fn take(
                 density,
                 slope,
             );
-            let s = run_verdict::counts::first_state(state, oc::record::compliance(energies));
+            let s = run_verdict::counts::first_state(state, oc_record::compliance(energies));
             return unrecorded(room, s, Reply::Round(1));
         }
         Verdict::Solves => {

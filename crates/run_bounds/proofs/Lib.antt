@@ -1,7 +1,3 @@
--- `Floats` has how float operations keep the order, `Range` what a design's values are, `Start` that the start's are so, `Updates` that an update keeps to
--- its bounds, `Runs` that every update of a run does.
-pub mod Floats
-pub mod Range
+-- `Start` has that the start's values lie from 0 to 1, `Runs` that every update of a run keeps to its bounds.
 pub mod Start
-pub mod Updates
 pub mod Runs

@@ -10,8 +10,11 @@ use Rattle.lists.specs.Lists.{choose}
 use Rattle.lists.proofs.Laws.{length-tabulate, getD-tabulate, choose-true, choose-false}
 use Rattle.ieee.specs.Basic.{one64}
 use Rattle.ieee_root.specs.Sqrt.{sqrtOf}
-use Rattle.oc.specs.Start.{startDensity, startDesign}
-use Rattle.update_rates.proofs.Bounds.{Move}
+use Rattle.oc_goal.specs.Goal.{startDensity}
+use Rattle.oc_start.specs.Start.{startDesign}
+use Rattle.update_rates.specs.Bounds.{UpdatedBy}
+use Rattle.update_rates.specs.Keeps.{Range, AllRange, Move, Keeps}
+use Rattle.update_rates.proofs.Bounds.{choose-either, one-range, update-bounds}
 use Rattle.run_plain.specs.declared.Verdict.{Verdict}
 use Rattle.run_plain.specs.declared.Verdict.the-variants.{Kept, Over, Halts, Begins, Solves}
 use Rattle.run_plain.specs.declared.Course.{Course}
@@ -21,10 +24,8 @@ use Rattle.run_plain.specs.Formulas.{Steep, s1, s2, s4, s8, s16, sharpness, Cas
 use Rattle.run_plain.specs.Opening.{Opening, solidOf, totalOf, targetAt, firstRefusal, atFirst, entryOf, caseOf, startOf}
 use Rattle.run_plain.specs.Plain.{Answer, Out, Seen, inOrder, judged, firstStop, Run, plainStart, askedOf, updated, stopsOf, onward, checksOf, after, answered, leftOf, plainFrom, plainRun}
 use Rattle.run_plain.proofs.Runs.{given-kept}
-use Rattle.run_bounds.specs.Bounds.{UpdatedBy, Within, none, kept, moved, WithinRun, opened}
-use Rattle.run_bounds.proofs.Range.{Range}
+use Rattle.run_bounds.specs.Bounds.{Within, none, kept, moved, WithinRun, opened}
 use Rattle.run_bounds.proofs.Start.{start-range}
-use Rattle.run_bounds.proofs.Updates.{AllRange, choose-either, one-range, update-bounds, update-range}
 
 -- ---- the moves
 -- from 0.001 to 1: 0.2, and a quarter of it at the last steepness
@@ -56,13 +57,16 @@ module _ (r : Run) (a : Answer) (all : AllRange (r .design)) where
   abbrev next : Run
   next = updated r (a .energies)
 
+  keeps-bounds : Keeps (givenAt (caseOf (r .given)) (r .steep) (r .design) (askedOf r) (a .energies))
+  keeps-bounds = update-bounds (givenAt (caseOf (r .given)) (r .steep) (r .design) (askedOf r) (a .energies)) all (move-at (caseOf (r .given)) (r .steep))
+
   bound : UpdatedBy (r .given .passive) (moveAt (caseOf (r .given)) (r .steep)) (r .design) (next .design)
   unfolding updateAt caseOf
-  bound = update-bounds (givenAt (caseOf (r .given)) (r .steep) (r .design) (askedOf r) (a .energies)) all (move-at (caseOf (r .given)) (r .steep))
+  bound = keeps-bounds .bounds
 
   range : AllRange (next .design)
   unfolding updateAt
-  range = update-range (givenAt (caseOf (r .given)) (r .steep) (r .design) (askedOf r) (a .energies)) all (move-at (caseOf (r .given)) (r .steep))
+  range = keeps-bounds .range
 
   steep-is : recordAt (caseOf (r .given)) (r .steep) (r .design) (askedOf r) (a .energies) (suc (length (r .rows))) .sharpness ≡ sharpness (r .steep)
   unfolding recordAt

@@ -21,12 +21,14 @@ use Rattle.ieee.proofs.Basic.{holds}
 use Rattle.ieee.proofs.Order.{le-transitive, le-reflexive}
 use Rattle.ieee.proofs.Bounds.{not-lt-le, lt-le}
 use Rattle.filter.specs.Domain.{volumeBad}
-use Rattle.oc.specs.Start.{xMin, noRoom, solidVolume, targetOf, startDensity}
+use Rattle.oc_goal.specs.Goal.{xMin, noRoom, targetOf, startDensity}
+use Rattle.oc_start.specs.Start.{solidVolume}
 use Rattle.ieee_lanes.proofs.Order.{Plus, Finite, finite-plus, positive-finite, lt-of-lt-of-le, lt-of-le-of-lt, add-plus, add-grows, mul-plus, div-plus, positive-of-tests, round-plus}
 use Rattle.run_plain.specs.Formulas.{sumOf}
 use Rattle.run_plain.specs.Opening.{Opening, elements, solidOf, totalOf, targetAt, fractionBad, firstRefusal}
-use Rattle.run_bounds.proofs.Floats.{finite-below, cross, add-over, sub-is, sub-under, sub-grows, sub-positive, mul-under, div-under}
-use Rattle.run_bounds.proofs.Range.{Range}
+use Rattle.update_rates.proofs.Floats.{finite-below, cross, add-over, sub-is, sub-under, sub-grows, sub-positive, mul-under, div-under}
+use Rattle.update_rates.specs.Keeps.{Range}
+use Rattle.update_rates.proofs.Bounds.{in-range}
 
 is-true : (b : Bool) → T b → b ≡ true
 is-true true h = refl
@@ -180,7 +182,7 @@ goes m e n d r ft fs st pr lr room =
     subst (λ (z : Float). T (fits binary64 z) → T (le s z) → T (le z t) → T (le (div binary64 (sub binary64 z s) whole) one64) × Plus (div binary64 (sub binary64 z s) whole)) (sym (cg .is))
     (λ a b c. quotient binary64 m e n d (cg .m) (cg .e) ft fs b c (lt-of-lt-of-le s g t sg gt)) in
     let q = at (mul-fits binary64 r t) (lt-le s g sg) gt in
-    record { fit = div-fits binary64 (sub binary64 g s) whole; finite = finite-below (div binary64 (sub binary64 g s) whole) 1 (pos 0) (q .1) (q .0); most = q .0 }
+    in-range (div binary64 (sub binary64 g s) whole) (div-fits binary64 (sub binary64 g s) whole) (finite-below (div binary64 (sub binary64 g s) whole) 1 (pos 0) (q .1) (q .0)) (q .0)
   where
     room-lt : (x y : Float) → T (not (isNan x)) → T (not (isNan y)) → le y x ≡ false → lt x y ≡ true
     room-lt x y p q h = by (lt x y) refl

@@ -8,23 +8,10 @@ use lib.ListN.{length, getD}
 use lib.Ieee.{Float, nan, binary64, add, sub, le}
 use Rattle.ieee.specs.Basic.{one64}
 use Rattle.topo.specs.declared.Iteration.{Iteration}
-use Rattle.oc.specs.Start.{xMin}
+use Rattle.update_rates.specs.Bounds.{UpdatedBy}
 use Rattle.run_plain.specs.Formulas.{Steep, sharpness, moveAt}
 use Rattle.run_plain.specs.Opening.{Opening, caseOf, startOf}
 use Rattle.run_plain.specs.Plain.{Out, Seen, shown}
-
--- a free element's value v after an update, and its old one: sum and difference are rounded
-pub record Bounded (old move v : Float) : Type 0 where
-  pub least : T (le xMin v)
-  pub most : T (le v one64)
-  pub down : T (le (sub binary64 old move) v)
-  pub up : T (le v (add binary64 old move))
-
--- the design x before an update, and y after it
-pub record UpdatedBy (passive : List Bool) (move : Float) (x y : List Float) : Type 0 where
-  pub long : length y ≡ length x
-  pub held : (k : ℕ) → k < length x → getD passive k false ≡ true → getD y k nan ≡ one64
-  pub free : (k : ℕ) → k < length x → getD passive k false ≡ false → Bounded (getD x k nan) move (getD y k nan)
 
 -- what a run shows that has the records l and the design x: each call leaves both, or it adds one record and updates the design, within the move of
 -- the record's steepness

@@ -12,7 +12,8 @@ use Rattle.lists.specs.Lists.{sumTo, anyTo, choose}
 use Rattle.lists.proofs.Laws.{neither}
 use Rattle.filter.specs.Domain.{volumeBad, radiusBad, centroidBad}
 use Rattle.filter.specs.Group.{planesRefusal}
-use Rattle.oc.specs.Start.{noRoom, solidVolume, targetOf}
+use Rattle.oc_goal.specs.Goal.{noRoom, targetOf}
+use Rattle.oc_start.specs.Start.{solidVolume}
 use Rattle.run_plain.specs.Lent.{openShort}
 use Rattle.run_plain.specs.Formulas.{sumOf}
 use Rattle.run_plain.specs.Opening.{Opening, elements, fractionBad, firstRefusal}

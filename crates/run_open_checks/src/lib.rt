@@ -5,7 +5,8 @@ ghost use Prim.Native.Nat.{_≤_, _<_};
 ghost use lib.ListN.{length, drop};
 ghost use Rattle.lists.specs.Lists.{overwrite, zero64};
 ghost use Rattle.ieee.specs.Basic.{one64};
-ghost use Rattle.oc.specs.Start.{solidVolume, targetOf, startDensity, startDesign};
+ghost use Rattle.oc_start.specs.Start.{solidVolume, startDesign};
+ghost use Rattle.oc_goal.specs.Goal.{targetOf, startDensity};
 ghost use Rattle.run_plain.specs.Lent.{openShort};
 ghost use Rattle.run_plain.specs.Formulas.{sumOf};
 ghost use Rattle.run_plain.specs.Opening.{fractionBad, firstRefusal};
@@ -96,8 +97,8 @@ pub fn refusal(
         return 3;
     }
     let total = lists::sum(volumes);
-    let solid = oc::start::solid_volume(volumes, passive);
-    let target = oc::start::target(goal.fraction, total);
+    let solid = oc_start::solid_volume(volumes, passive);
+    let target = oc_goal::target(goal.fraction, total);
     let short = too_short(
         n,
         goal.max_iterations,
@@ -123,7 +124,7 @@ pub fn refusal(
     let rest = filter::group::refusal(mirrors, rest);
     let rest = lists::first(filter::domain::centroids_bad(centroids), 9, rest);
     let rest = lists::first(filter::domain::radius_bad(goal.radius), 8, rest);
-    let rest = lists::first(oc::start::no_room(solid, total, target), 7, rest);
+    let rest = lists::first(oc_goal::no_room(solid, total, target), 7, rest);
     let rest = lists::first(goal.max_iterations == 0, 6, rest);
     let rest = lists::first(fraction_bad(goal.fraction), 5, rest);
     lists::first(filter::domain::volumes_bad(volumes), 4, rest)
@@ -148,10 +149,10 @@ pub fn begin(goal: Goal, volumes: &[f64], passive: &[bool], design: &mut [f64])
 {
     let n = passive.len();
     let total = lists::sum(volumes);
-    let solid = oc::start::solid_volume(volumes, passive);
-    let target = oc::start::target(goal.fraction, total);
-    let start = oc::start::start_density(solid, total, target);
-    oc::start::start_design(passive, start, &mut design[..n]);
+    let solid = oc_start::solid_volume(volumes, passive);
+    let target = oc_goal::target(goal.fraction, total);
+    let start = oc_goal::start_density(solid, total, target);
+    oc_start::start_design(passive, start, &mut design[..n]);
 }
 
 // The state of a run that is opened: it asks for the solid part.

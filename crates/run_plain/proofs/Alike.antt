@@ -10,7 +10,7 @@ use lib.Ieee.{Float}
 use borrow.Author.Tests.{lt-ltb, le-leb, eq-eqb}
 use Rattle.lists.specs.Lists.{choose, overlay}
 use Rattle.topo.specs.declared.Iteration.{Iteration}
-use Rattle.oc.specs.Record.{complianceOf}
+use Rattle.oc_record.specs.Record.{complianceOf}
 use Rattle.run_plain.specs.declared.Phase.{Phase}
 use Rattle.run_plain.specs.declared.Phase.the-variants.{Idle, Solid, Round}
 use Rattle.run_plain.specs.declared.State.{State}

@@ -13,13 +13,14 @@ use Rattle.lists.specs.Lists.{choose, foldTo}
 use Rattle.lists.proofs.Laws.{length-tabulate, passes-on, neither}
 use Rattle.filter.specs.Filter.{joined, columns, neighbours, coefficients, coefficient, start}
 use Rattle.filter.specs.Build.{tooBig, tooShort, rowRefusal, rowsRefusal}
-use Rattle.oc.specs.Start.{startDesign}
-use Rattle.oc.specs.Seen.{seenDensity, densities}
+use Rattle.oc_start.specs.Start.{startDesign}
+use Rattle.oc_seen.specs.Seen.{seenDensity, densities}
 use Rattle.run_plain.specs.declared.Entry.the-variants.{Opens}
 use Rattle.run_plain.specs.Formulas.{Steep, Case, ones, see, givenAt, updateAt}
 use Rattle.run_plain.specs.Opening.{Opening, elements, startsOf, nearOf, coefOf, tableRefusal, firstRefusal, inRows, atFirst, entryOf, startOf}
 use Rattle.run_plain.proofs.Parts.{Room, open-room}
-use Rattle.run_plain.proofs.Update.{length-updated, passes-most}
+use Rattle.update_rates.proofs.Bounds.{length-updated}
+use Rattle.update_rates.proofs.Passes.{passes-at-most}
 
 pub length-ones : (n : ℕ) → length (ones n) ≡ n
 unfolding ones
@@ -39,7 +40,7 @@ length-update c b x q energies = length-updated (givenAt c b x q energies)
 
 pub most-passes : (c : Case) (b : Steep) (x q energies : List Float) → updateAt c b x q energies .passes ≤ 200
 unfolding updateAt
-most-passes c b x q energies = passes-most (givenAt c b x q energies)
+most-passes c b x q energies = passes-at-most (givenAt c b x q energies) .to
 
 -- ---- an opening that is not refused
 joined-long : {A B : Type 0} (g : ℕ → List A) (f : ℕ → A → B) (n : ℕ) → length (joined (λ j. map (f j) (g j)) n) ≡ length (joined g n)

@@ -9,7 +9,7 @@ use lib.Ieee.{Float}
 use borrow.Author.Tests.{leb-false}
 use Rattle.lists.specs.Lists.{choose}
 use Rattle.topo.specs.declared.Iteration.{Iteration}
-use Rattle.oc.specs.Record.{complianceOf}
+use Rattle.oc_record.specs.Record.{complianceOf}
 use Rattle.run_plain.specs.declared.Verdict.{Verdict}
 use Rattle.run_plain.specs.declared.Verdict.the-variants.{Kept, Over, Halts, Begins, Solves}
 use Rattle.run_plain.specs.declared.Course.{Course}

@@ -1,6 +1,5 @@
--- `Parts`: lists that are lent in part. `Update`, `Formulas`: lengths and counts of what the formulas make.
+-- `Parts`: lists that are lent in part. `Formulas`: lengths and counts of what the formulas make.
 pub mod Parts
-pub mod Update
 pub mod Formulas
 pub mod Counts
 pub mod Verdicts

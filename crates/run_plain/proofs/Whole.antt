@@ -14,8 +14,8 @@ use Rattle.lists.proofs.Laws.{choose-false}
 use Rattle.topo.specs.declared.Iteration.{Iteration}
 use Rattle.topo.specs.declared.Stop.{Stop}
 use Rattle.topo.specs.declared.Stop.the-variants.{Stopped}
-use Rattle.oc.specs.Record.{complianceOf}
-use Rattle.update_rates.specs.Rates.{Stand}
+use Rattle.oc_record.specs.Record.{complianceOf}
+use Rattle.update_rates.specs.Rates.{Search}
 use Rattle.run_plain.specs.declared.Phase.{Phase}
 use Rattle.run_plain.specs.declared.Phase.the-variants.{Idle, Solid, Round}
 use Rattle.run_plain.specs.declared.Reply.the-variants.{Stop as StopReply}
@@ -133,7 +133,7 @@ is-recorded l₀ r s l k a ph st tu sy w b p density m h d q lt hq hs f c =
     let x = densityIn s (lend k l) in
     let e = recordIn s a (lend k l) in
     let nd : Renewed (s .elements) (k .design) u u′ (l .design) =
-    renewed (s .elements) (k .design) u u′ (l .design) (ap (λ (v : Stand). v .design) (o .update)) (length-update _ _ _ _ _ ∙ d .long) (h .room .design) in
+    renewed (s .elements) (k .design) u u′ (l .design) (ap (λ (v : Search). v .design) (o .update)) (length-update _ _ _ _ _ ∙ d .long) (h .room .design) in
     let nl : Renewed (s .elements) (k .last) x (askedOf r) (l .last) = last-renewed r s l k h q in
     let hh : s .«max_iterations» ≤ length (take (k .history) (l .history)) = h .room .history in
     let nh : Added (s .rounds) (k .history) e (l .history) = added (s .rounds) (k .history) e (l .history) (omega arith) in

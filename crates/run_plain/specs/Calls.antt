@@ -11,8 +11,8 @@ use Rattle.lists.specs.Lists.{choose, zero64, overlay}
 use Rattle.topo.specs.declared.Goal.{Goal}
 use Rattle.topo.specs.declared.Iteration.{Iteration}
 use Rattle.topo.specs.declared.Stop.the-variants.{Stopped}
-use Rattle.oc.specs.Record.{complianceOf}
-use Rattle.update_rates.specs.Rates.{Stand}
+use Rattle.oc_record.specs.Record.{complianceOf}
+use Rattle.update_rates.specs.Rates.{Search}
 use Rattle.run_plain.specs.declared.Phase.{Phase}
 use Rattle.run_plain.specs.declared.Phase.the-variants.{Idle, Solid, Round}
 use Rattle.run_plain.specs.declared.Said.{Said}
@@ -136,7 +136,7 @@ firstAsked s a l =
     }
 
 -- the update and the record of a round
-abbrev pub updateIn : State → Told → Lists → Stand
+abbrev pub updateIn : State → Told → Lists → Search
 updateIn s a l = updateAt (caseFrom s l) (steepAt (s .stage)) (designIn s l) (densityIn s l) (a .energies)
 
 abbrev pub recordIn : State → Told → Lists → Iteration

@@ -8,15 +8,16 @@ use Rattle.lists.specs.Lists.{tabulate, sumTo, anyTo, choose, zero64}
 use Rattle.ieee.specs.Basic.{one64, absOf, isFinite}
 use Rattle.ieee_root.specs.Sqrt.{sqrtOf}
 use Rattle.topo.specs.declared.Iteration.{Iteration}
-use Rattle.oc.specs.declared.seen.Sharpness.{Sharpness}
-use Rattle.oc.specs.declared.seen.Sharpness.the-variants.{Off, At}
-use Rattle.oc.specs.declared.kept.Rule.the-variants.{Straight, Sharpened}
-use Rattle.oc.specs.Start.{solidVolume, freeVolumes, targetOf, toleranceOf}
-use Rattle.oc.specs.Seen.{seenDensity, seenSlope}
-use Rattle.oc.specs.Slopes.{workSlope, volumeSlope, straightSlope}
-use Rattle.oc.specs.Record.{complianceOf, fractionOf, changeOf, greyOf}
+use Rattle.oc_seen.specs.declared.Sharpness.{Sharpness}
+use Rattle.oc_seen.specs.declared.Sharpness.the-variants.{Off, At}
+use Rattle.oc_kept.specs.declared.Rule.the-variants.{Straight, Sharpened}
+use Rattle.oc_start.specs.Start.{solidVolume, freeVolumes}
+use Rattle.oc_goal.specs.Goal.{targetOf, toleranceOf}
+use Rattle.oc_seen.specs.Seen.{seenDensity, seenSlope}
+use Rattle.oc_slopes.specs.Slopes.{workSlope, volumeSlope, straightSlope}
+use Rattle.oc_record.specs.Record.{complianceOf, fractionOf, changeOf, greyOf}
 use Rattle.update_design.specs.Design.{gainsOf}
-use Rattle.update_rates.specs.Rates.{Given, Stand, updated}
+use Rattle.update_rates.specs.Rates.{Given, Search, updated}
 
 -- "The steepness runs 1, 2, 4, 8, 16"
 pub data Steep : Type 0 where
@@ -95,7 +96,7 @@ module _ (c : Case) where
       }
 
   -- "work and one update by the formulas above"
-  unfoldable pub updateAt : Steep → List Float → List Float → List Float → Stand
+  unfoldable pub updateAt : Steep → List Float → List Float → List Float → Search
   updateAt b x q energies = updated (givenAt b x q energies)
 
   -- "A round record holds its number, work, share, change, steepness and grey; reckonings are added here."

@@ -12,7 +12,8 @@ use Rattle.filter.specs.Domain.{volumeBad, radiusBad, centroidBad}
 use Rattle.filter.specs.Group.{planesBad, planesSkew}
 use Rattle.filter.specs.Filter.{neighbours, start, coefficients}
 use Rattle.filter.specs.Build.{rowsRefusal}
-use Rattle.oc.specs.Start.{noRoom, solidVolume, targetOf, startDensity, startDesign}
+use Rattle.oc_goal.specs.Goal.{noRoom, targetOf, startDensity}
+use Rattle.oc_start.specs.Start.{solidVolume, startDesign}
 use Rattle.run_plain.specs.declared.Entry.{Entry}
 use Rattle.run_plain.specs.declared.Entry.the-variants.{Kept, Zeroed, Shut, Opens}
 use Rattle.run_plain.specs.Lent.{Sizes, openShort}

@@ -10,7 +10,7 @@ use Rattle.lists.specs.Lists.{choose, zero64}
 use Rattle.topo.specs.declared.Iteration.{Iteration}
 use Rattle.topo.specs.declared.Stop.{Stop}
 use Rattle.topo.specs.declared.Stop.the-variants.{Settled, LevelledOff, Limit, Budget, Stopped}
-use Rattle.oc.specs.Record.{complianceOf}
+use Rattle.oc_record.specs.Record.{complianceOf}
 use Rattle.run_plain.specs.declared.Said.{Said}
 use Rattle.run_plain.specs.declared.Said.the-variants.{Gave, Failed, Halted}
 use Rattle.run_plain.specs.declared.Verdict.{Verdict}

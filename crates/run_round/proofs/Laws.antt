@@ -8,13 +8,14 @@ use lib.Ieee.{Float, nan, binary64, div, ofBits}
 use Rattle.lists.specs.Lists.{sumTo, choose}
 use Rattle.ieee_root.specs.Sqrt.{sqrtOf}
 use Rattle.topo.specs.declared.Iteration.{Iteration}
-use Rattle.oc.specs.declared.seen.Sharpness.the-variants.{Off, At}
-use Rattle.oc.specs.Seen.{slopes, elementSlope, sharpenedSlope, seenSlope}
-use Rattle.oc.specs.declared.kept.Rule.{Rule}
-use Rattle.oc.specs.declared.kept.Rule.the-variants.{Straight, Sharpened}
-use Rattle.oc.specs.Start.{solidVolume, freeVolumes, targetOf, toleranceOf}
-use Rattle.oc.specs.Slopes.{workSlope, volumeSlope, straightSlope}
-use Rattle.oc.specs.Record.{complianceOf, fractionOf, changeOf, greyOf}
+use Rattle.oc_seen.specs.declared.Sharpness.the-variants.{Off, At}
+use Rattle.oc_seen.specs.Seen.{slopes, elementSlope, sharpenedSlope, seenSlope}
+use Rattle.oc_kept.specs.declared.Rule.{Rule}
+use Rattle.oc_kept.specs.declared.Rule.the-variants.{Straight, Sharpened}
+use Rattle.oc_start.specs.Start.{solidVolume, freeVolumes}
+use Rattle.oc_goal.specs.Goal.{targetOf, toleranceOf}
+use Rattle.oc_slopes.specs.Slopes.{workSlope, volumeSlope, straightSlope}
+use Rattle.oc_record.specs.Record.{complianceOf, fractionOf, changeOf, greyOf}
 use Rattle.update.specs.declared.Updated.{Updated}
 use Rattle.update_design.specs.Design.{gainsOf}
 use Rattle.update_rates.specs.Rates.{Given, updated}

@@ -7,9 +7,9 @@ use lib.ListN.{length, getD}
 use lib.Ieee.{Float}
 use Rattle.lists.specs.Lists.{tabulate, choose, zero64}
 use Rattle.ieee.specs.Basic.{one64}
-use Rattle.oc.specs.declared.seen.Sharpness.the-variants.{Off, At}
-use Rattle.oc.specs.Seen.{seenSlope}
-use Rattle.oc.specs.Slopes.{workSlope, volumeSlope, straightSlope}
+use Rattle.oc_seen.specs.declared.Sharpness.the-variants.{Off, At}
+use Rattle.oc_seen.specs.Seen.{seenSlope}
+use Rattle.oc_slopes.specs.Slopes.{workSlope, volumeSlope, straightSlope}
 use Rattle.run_plain.specs.Formulas.{Case}
 
 abbrev pub caseAt : List Float → List Bool → List ℕ → List ℕ → List Float → Float → Bool → Case

@@ -4,13 +4,13 @@ ghost use lib.Ieee.{binary64, div, ofBits};
 ghost use lib.ListN.{length};
 ghost use Rattle.lists.specs.Lists.{choose};
 ghost use Rattle.ieee_root.specs.Sqrt.{sqrtOf};
-ghost use Rattle.oc.specs.Seen.{seenDensity, seenSlope};
-ghost use Rattle.oc.specs.Slopes.{volumeSlope, straightSlope};
+ghost use Rattle.oc_seen.specs.Seen.{seenDensity, seenSlope};
+ghost use Rattle.oc_slopes.specs.Slopes.{volumeSlope, straightSlope};
 ghost use Rattle.run_plain.specs.Formulas.{sharpness as sharpnessOf, updateAt, recordAt};
 ghost use Rattle.run_plain.specs.Calls.{steepAt};
 ghost use Rattle.run_round.specs.Round.{caseAt, Long, plainSlopes, SlopesInto};
-use oc::kept::Rule;
-use oc::seen::Sharpness;
+use oc_kept::Rule;
+use oc_seen::Sharpness;
 use topo::Iteration;
 
 // The steepness of a stage.
@@ -89,7 +89,7 @@ fn slopes(
     ensures { λ _. ⌜ now (slope .exit) ≡ seenSlope (choose sharpen (Sharpness.At beta) Sharpness.Off) (now (starts .entry)) (now (near .entry)) (now (coef .entry)) (now (passive .entry)) (now (x .entry)) ⌝ }
 {
     if sharpen {
-        oc::seen::see(
+        oc_seen::see(
             starts,
             near,
             coef,
@@ -176,10 +176,11 @@ pub fn ask(
     ensures { λ _. ⌜ now (density .exit) ≡ seenDensity (choose sharpen (Sharpness.At (sharpnessOf (steepAt stage))) Sharpness.Off) (now (starts .entry)) (now (near .entry)) (now (coef .entry)) (now (passive .entry)) (now (design .entry)) ⌝ }
 {
     let at = seen_at(sharpen, sharpness(stage));
-    oc::seen::see(starts, near, coef, passive, design, at, density, spare);
+    oc_seen::see(starts, near, coef, passive, design, at, density, spare);
 }
 
-// A round's update and its record. The last five lists are for the call's own use.
+// A round's update and its record. The last five lists are for the call's own use: `next` holds each density's slope until the update leaves its design
+// there, and `free` the free volumes until the update takes it for the gains.
 pub fn solve(
     number: usize,
     stage: usize,
@@ -194,21 +195,21 @@ pub fn solve(
     density: &[f64],
     design: &mut [f64],
     free: &mut [f64],
-    slope: &mut [f64],
+    next: &mut [f64],
     spare: &mut [f64],
     dc: &mut [f64],
     dv: &mut [f64],
 ) -> Iteration
     requires { ⌜ Long (now passive) (now energies) × Long (now passive) (now volumes) × Long (now passive) (now density) × Long (now passive) (now design) ⌝ }
-    requires { ⌜ Long (now passive) (now free) × Long (now passive) (now slope) × Long (now passive) (now spare) × Long (now passive) (now dc) × Long (now passive) (now dv) ⌝ }
+    requires { ⌜ Long (now passive) (now free) × Long (now passive) (now next) × Long (now passive) (now spare) × Long (now passive) (now dc) × Long (now passive) (now dv) ⌝ }
     ensures { λ r. ⌜ (r ≡ recordAt (caseAt (now (volumes .entry)) (now (passive .entry)) (now (starts .entry)) (now (near .entry)) (now (coef .entry)) fraction sharpen) (steepAt stage) (now (design .entry)) (now (density .entry)) (now (energies .entry)) number)
         × (now (design .exit) ≡ updateAt (caseAt (now (volumes .entry)) (now (passive .entry)) (now (starts .entry)) (now (near .entry)) (now (coef .entry)) fraction sharpen) (steepAt stage) (now (design .entry)) (now (density .entry)) (now (energies .entry)) .design) ⌝ }
 {
     let total = lists::sum(volumes);
-    let solid = oc::start::solid_volume(volumes, passive);
+    let solid = oc_start::solid_volume(volumes, passive);
     let beta = sharpness(stage);
-    oc::start::free_volumes(volumes, passive, free);
-    let grey = oc::record::grey(density, &free[..], lists::sum(&free[..]));
+    oc_start::free_volumes(volumes, passive, free);
+    let grey = oc_record::grey(density, &free[..], lists::sum(&free[..]));
     slopes_into(
         sharpen,
         beta,
@@ -220,7 +221,7 @@ pub fn solve(
         density,
         &design[..],
         &free[..],
-        slope,
+        next,
         spare,
         dc,
         dv,
@@ -231,23 +232,23 @@ pub fn solve(
         &dv[..],
         passive,
         move_at(sharpen, beta),
-        oc::start::target(fraction, total),
-        oc::start::tolerance(total),
+        oc_goal::target(fraction, total),
+        oc_goal::tolerance(total),
         rule_at(sharpen, beta, solid),
         starts,
         near,
         coef,
         volumes,
-        slope,
+        next,
         free,
         spare,
     );
-    let change = oc::record::change(&slope[..], &design[..]);
-    update_design::copy(&slope[..], design);
+    let change = oc_record::change(&next[..], &design[..]);
+    update_design::copy(&next[..], design);
     Iteration {
         number,
-        compliance: oc::record::compliance(energies),
-        fraction: oc::record::fraction(volumes, density, total),
+        compliance: oc_record::compliance(energies),
+        fraction: oc_record::fraction(volumes, density, total),
         change,
         sharpness: beta,
         grey,

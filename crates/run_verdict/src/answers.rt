@@ -206,7 +206,7 @@ pub fn verdict(
     );
     let count = energies.len() != state.elements;
     let bad = not_finite(energies);
-    let idle = idle(oc::record::compliance(energies));
+    let idle = idle(oc_record::compliance(energies));
     let stands = 0 < state.rounds;
     match phase {
         Phase::Idle => {

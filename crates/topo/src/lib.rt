@@ -60,6 +60,16 @@ pub struct Iteration {
     pub passes: usize,
 }
 
+// How an update ended.
+pub enum Ending {
+    // the kept volume
+    Met(f64),
+    // the rates of the bracket
+    Cramped(f64, f64),
+    // the kept volume
+    Spent(f64),
+}
+
 // Why a run stopped.
 pub enum Stop {
     Settled,

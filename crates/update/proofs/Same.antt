@@ -4,8 +4,8 @@ use mathlib.Core.Bool.{Bool}
 use mathlib.Core.List.{List, []}
 use Prim.Native.Nat.{ℕ}
 use lib.Ieee.{Float}
-use Rattle.oc.specs.declared.kept.Rule.the-variants.{Straight}
-use Rattle.oc.specs.Kept.{keptOf}
+use Rattle.oc_kept.specs.declared.Rule.the-variants.{Straight}
+use Rattle.oc_kept.specs.Kept.{keptOf}
 use Rattle.update_rates.specs.Rates.{given, trial, reckoned, firstRate, first, raises, raised, middle, halves, halved, raisedAll, updated}
 
 module _ (x gain dv : List Float) (passive : List Bool) (m target tolerance solid : Float) (starts near : List ℕ) (coef volumes : List Float) where

@@ -1,2 +1,2 @@
--- `Update` has how an update ends and what it leaves.
+-- `Update` has what an update leaves.
 pub mod Update

@@ -4,43 +4,17 @@ ghost use mathlib.Core.Path.{_≡_};
 ghost use Prim.Native.Nat.{_<_};
 ghost use lib.ListN.{length};
 ghost use Rattle.update_design.specs.Design.{gainsOf};
-ghost use Rattle.update_rates.specs.Rates.{given, firstRate, updated};
+ghost use Rattle.update_rates.specs.Rates.{Given, given, firstRate, updated};
 ghost use Rattle.update_rates.specs.Steps.{standing};
-ghost use Rattle.update.specs.Update.{endingOf, Done};
-use oc::kept::Rule;
-use update_rates::PASSES;
-use update_rates::Rates;
-
-pub enum Ending {
-    // the kept volume
-    Met(f64),
-    // the rates of the bracket
-    Cramped(f64, f64),
-    // the kept volume
-    Spent(f64),
-}
+ghost use Rattle.update.specs.Update.{Done};
+use oc_kept::Rule;
+use topo::Ending;
+use update_rates::Bracket;
 
 pub struct Updated {
     pub ending: Ending,
     // how many volumes the update of the definition reckons
     pub passes: usize,
-}
-
-fn ended(target: f64, tolerance: f64, at: Rates) -> Ending
-    ensures { λ r. ⌜ r ≡ endingOf target tolerance (at .low) (at .high) (at .kept) (at .passes) ⌝ }
-{
-    let kept = at.kept;
-    let passes = at.passes;
-    if ieee::abs(kept - target) <= tolerance {
-        return Ending::Met(kept);
-    }
-    if kept != kept {
-        return Ending::Cramped(at.low, at.high);
-    }
-    if passes == PASSES {
-        return Ending::Spent(kept);
-    }
-    Ending::Cramped(at.low, at.high)
 }
 
 // By few volumes, as the rule asks. No passes: the fast way does not serve.
@@ -60,10 +34,12 @@ fn fast(
     first: f64,
     design: &mut [f64],
     work: &mut [f64],
-) -> Rates
-    requires { ⌜ (length (now gain) ≡ length (now x)) × (length (now dv) ≡ length (now x)) × (length (now passive) ≡ length (now x)) × (length (now design) ≡ length (now x)) × (length (now work) ≡ length (now x)) ⌝ }
-    requires { ⌜ first ≡ firstRate (given (now (x)) (now (gain)) (now (dv)) (now (passive)) m target tolerance rule (now (starts)) (now (near)) (now (coef)) (now (volumes))) ⌝ }
-    ensures { λ r. ⌜ (0 < r .passes → standing r (now (design .exit)) ≡ updated (given (now (x .entry)) (now (gain .entry)) (now (dv .entry)) (now (passive .entry)) m target tolerance rule (now (starts .entry)) (now (near .entry)) (now (coef .entry)) (now (volumes .entry)))) ⌝ }
+) -> Bracket
+    ghost { Given }
+    requires { λ g. ⌜ given (now x) (now gain) (now dv) (now passive) m target tolerance rule (now starts) (now near) (now coef) (now volumes) ≡ g ⌝ }
+    requires { λ _. ⌜ (length (now gain) ≡ length (now x)) × (length (now dv) ≡ length (now x)) × (length (now passive) ≡ length (now x)) × (length (now design) ≡ length (now x)) × (length (now work) ≡ length (now x)) ⌝ }
+    requires { λ g. ⌜ first ≡ firstRate g ⌝ }
+    ensures { λ g r. ⌜ (0 < r .passes → standing r (now (design .exit)) ≡ updated g) ⌝ }
 {
     match rule {
         Rule::Straight(solid) => update_straight::straight(
@@ -121,7 +97,7 @@ pub fn update(
     ensures { λ r. ⌜ Done (given (now (x .entry)) (gainsOf (now (dc .entry)) (now (dv .entry))) (now (dv .entry)) (now (passive .entry)) m target tolerance rule (now (starts .entry)) (now (near .entry)) (now (coef .entry)) (now (volumes .entry))) r (now (design .exit)) ⌝ }
 {
     update_design::gains(dc, dv, gain);
-    let first = update_design::first_rate(update_design::most(&gain[..], passive));
+    let first = update_value::first_rate(update_design::most(&gain[..], passive));
     let at = fast(
         x,
         &gain[..],
@@ -141,7 +117,7 @@ pub fn update(
     );
     let passes = at.passes;
     if passes > 0usize {
-        let ending = ended(target, tolerance, at);
+        let ending = update_rates::ended(target, tolerance, at);
         return Updated { ending, passes };
     }
     let at = update_defined::every(
@@ -161,7 +137,7 @@ pub fn update(
         design,
         work,
     );
-    let ending = ended(target, tolerance, at);
+    let ending = update_rates::ended(target, tolerance, at);
     Updated {
         ending,
         passes: at.passes,

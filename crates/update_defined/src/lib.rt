@@ -4,11 +4,11 @@ ghost use mathlib.Core.Bool.{true};
 ghost use Prim.Native.Nat.{_-_, _≤_};
 ghost use lib.ListN.{length};
 ghost use Rattle.filter_table.specs.Table.{Wf};
-ghost use Rattle.oc.specs.Kept.{keptOf};
-ghost use Rattle.update_rates.specs.Rates.{given, reckoned, whileTo, raises, raised, halves, halved, firstRate, updated};
+ghost use Rattle.oc_kept.specs.Kept.{keptOf};
+ghost use Rattle.update_rates.specs.Rates.{Given, given, reckoned, whileTo, raises, raised, halves, halved, firstRate, updated};
 ghost use Rattle.update_rates.specs.Steps.{standing};
+use update_rates::Bracket;
 use update_rates::PASSES;
-use update_rates::Rates;
 
 // The upper rate doubled until it keeps no more than the target, or until no less can be kept.
 fn raise(
@@ -19,20 +19,22 @@ fn raise(
     m: f64,
     target: f64,
     tolerance: f64,
-    rule: oc::kept::Rule,
+    rule: oc_kept::Rule,
     well: bool,
     starts: &[u32],
     near: &[u32],
     coef: &[f64],
     volumes: &[f64],
-    at: Rates,
+    at: Bracket,
     design: &mut [f64],
     work: &mut [f64],
-) -> Rates
-    requires { ⌜ (length (now gain) ≡ length (now x)) × (length (now dv) ≡ length (now x)) × (length (now passive) ≡ length (now x)) × (length (now design) ≡ length (now x)) × (length (now work) ≡ length (now x)) ⌝ }
-    requires { ⌜ (well ≡ true → Wf (now starts) (now near) (now coef) (length (now x)) (length (now x))) ⌝ }
-    requires { ⌜ (at .passes ≤ 200) × (at .kept ≡ reckoned (given (now x) (now gain) (now dv) (now passive) m target tolerance rule (now starts) (now near) (now coef) (now volumes)) (now design)) ⌝ }
-    ensures { λ r. ⌜ (standing r (now (design .exit)) ≡ whileTo (raises (given (now (x .entry)) (now (gain .entry)) (now (dv .entry)) (now (passive .entry)) m target tolerance rule (now (starts .entry)) (now (near .entry)) (now (coef .entry)) (now (volumes .entry)))) (raised (given (now (x .entry)) (now (gain .entry)) (now (dv .entry)) (now (passive .entry)) m target tolerance rule (now (starts .entry)) (now (near .entry)) (now (coef .entry)) (now (volumes .entry)))) (200 - at .passes) (standing at (now (design .entry)))) × (r .passes ≤ 200) × (r .kept ≡ reckoned (given (now (x .entry)) (now (gain .entry)) (now (dv .entry)) (now (passive .entry)) m target tolerance rule (now (starts .entry)) (now (near .entry)) (now (coef .entry)) (now (volumes .entry))) (now (design .exit))) ⌝ }
+) -> Bracket
+    ghost { Given }
+    requires { λ g. ⌜ given (now x) (now gain) (now dv) (now passive) m target tolerance rule (now starts) (now near) (now coef) (now volumes) ≡ g ⌝ }
+    requires { λ _. ⌜ (length (now gain) ≡ length (now x)) × (length (now dv) ≡ length (now x)) × (length (now passive) ≡ length (now x)) × (length (now design) ≡ length (now x)) × (length (now work) ≡ length (now x)) ⌝ }
+    requires { λ _. ⌜ (well ≡ true → Wf (now starts) (now near) (now coef) (length (now x)) (length (now x))) ⌝ }
+    requires { λ g. ⌜ (at .passes ≤ 200) × (at .kept ≡ reckoned g (now design)) ⌝ }
+    ensures { λ g r. ⌜ (standing r (now (design .exit)) ≡ whileTo (raises g) (raised g) (200 - at .passes) (standing at (now (design .entry)))) × (r .passes ≤ 200) × (r .kept ≡ reckoned g (now (design .exit))) ⌝ }
 {
     let mut low = at.low;
     let mut high = at.high;
@@ -42,7 +44,7 @@ fn raise(
         let rate = 2.0 * high;
         update_design::design_at(x, gain, passive, m, rate, work);
         if update_design::same(&work[..], &design[..]) {
-            return Rates {
+            return Bracket {
                 low,
                 high,
                 kept,
@@ -50,7 +52,7 @@ fn raise(
             };
         }
         update_design::copy(&work[..], design);
-        kept = oc::kept::kept(
+        kept = oc_kept::kept(
             rule,
             dv,
             well,
@@ -66,7 +68,7 @@ fn raise(
         high = rate;
         passes += 1usize;
     }
-    Rates {
+    Bracket {
         low,
         high,
         kept,
@@ -78,7 +80,7 @@ fn raise(
 fn kept_again(
     same: bool,
     kept: f64,
-    rule: oc::kept::Rule,
+    rule: oc_kept::Rule,
     dv: &[f64],
     well: bool,
     starts: &[u32],
@@ -97,7 +99,7 @@ fn kept_again(
     if same {
         return kept;
     }
-    oc::kept::kept(
+    oc_kept::kept(
         rule,
         dv,
         well,
@@ -120,20 +122,22 @@ fn halve(
     m: f64,
     target: f64,
     tolerance: f64,
-    rule: oc::kept::Rule,
+    rule: oc_kept::Rule,
     well: bool,
     starts: &[u32],
     near: &[u32],
     coef: &[f64],
     volumes: &[f64],
-    at: Rates,
+    at: Bracket,
     design: &mut [f64],
     work: &mut [f64],
-) -> Rates
-    requires { ⌜ (length (now gain) ≡ length (now x)) × (length (now dv) ≡ length (now x)) × (length (now passive) ≡ length (now x)) × (length (now design) ≡ length (now x)) × (length (now work) ≡ length (now x)) ⌝ }
-    requires { ⌜ (well ≡ true → Wf (now starts) (now near) (now coef) (length (now x)) (length (now x))) ⌝ }
-    requires { ⌜ (at .passes ≤ 200) × (at .kept ≡ reckoned (given (now x) (now gain) (now dv) (now passive) m target tolerance rule (now starts) (now near) (now coef) (now volumes)) (now design)) ⌝ }
-    ensures { λ r. ⌜ standing r (now (design .exit)) ≡ whileTo (halves (given (now (x .entry)) (now (gain .entry)) (now (dv .entry)) (now (passive .entry)) m target tolerance rule (now (starts .entry)) (now (near .entry)) (now (coef .entry)) (now (volumes .entry)))) (halved (given (now (x .entry)) (now (gain .entry)) (now (dv .entry)) (now (passive .entry)) m target tolerance rule (now (starts .entry)) (now (near .entry)) (now (coef .entry)) (now (volumes .entry)))) (200 - at .passes) (standing at (now (design .entry))) ⌝ }
+) -> Bracket
+    ghost { Given }
+    requires { λ g. ⌜ given (now x) (now gain) (now dv) (now passive) m target tolerance rule (now starts) (now near) (now coef) (now volumes) ≡ g ⌝ }
+    requires { λ _. ⌜ (length (now gain) ≡ length (now x)) × (length (now dv) ≡ length (now x)) × (length (now passive) ≡ length (now x)) × (length (now design) ≡ length (now x)) × (length (now work) ≡ length (now x)) ⌝ }
+    requires { λ _. ⌜ (well ≡ true → Wf (now starts) (now near) (now coef) (length (now x)) (length (now x))) ⌝ }
+    requires { λ g. ⌜ (at .passes ≤ 200) × (at .kept ≡ reckoned g (now design)) ⌝ }
+    ensures { λ g r. ⌜ standing r (now (design .exit)) ≡ whileTo (halves g) (halved g) (200 - at .passes) (standing at (now (design .entry))) ⌝ }
 {
     let mut low = at.low;
     let mut high = at.high;
@@ -142,7 +146,7 @@ fn halve(
     while (ieee::abs(kept - target) > tolerance) & (passes < PASSES) {
         let rate = 0.5 * (low + high);
         if (rate <= low) | (rate >= high) {
-            return Rates {
+            return Bracket {
                 low,
                 high,
                 kept,
@@ -169,7 +173,7 @@ fn halve(
         low = lists::either(more, rate, low);
         high = lists::either(more, high, rate);
     }
-    Rates {
+    Bracket {
         low,
         high,
         kept,
@@ -178,12 +182,12 @@ fn halve(
 }
 
 // Whether the filter's products may go without tests; unsharpened there are none.
-fn tested(rule: oc::kept::Rule, starts: &[u32], near: &[u32], coef: &[f64], n: usize) -> bool
+fn tested(rule: oc_kept::Rule, starts: &[u32], near: &[u32], coef: &[f64], n: usize) -> bool
     ensures { λ r. ⌜ (r ≡ true → Wf (now (starts .entry)) (now (near .entry)) (now (coef .entry)) n n) ⌝ }
 {
     match rule {
-        oc::kept::Rule::Straight(_) => false,
-        oc::kept::Rule::Sharpened(_) => filter_table::well(starts, near, coef, n, n),
+        oc_kept::Rule::Straight(_) => false,
+        oc_kept::Rule::Sharpened(_) => filter_table::well(starts, near, coef, n, n),
     }
 }
 
@@ -196,7 +200,7 @@ pub fn every(
     m: f64,
     target: f64,
     tolerance: f64,
-    rule: oc::kept::Rule,
+    rule: oc_kept::Rule,
     starts: &[u32],
     near: &[u32],
     coef: &[f64],
@@ -204,14 +208,16 @@ pub fn every(
     rate: f64,
     design: &mut [f64],
     work: &mut [f64],
-) -> Rates
-    requires { ⌜ (length (now gain) ≡ length (now x)) × (length (now dv) ≡ length (now x)) × (length (now passive) ≡ length (now x)) × (length (now design) ≡ length (now x)) × (length (now work) ≡ length (now x)) ⌝ }
-    requires { ⌜ rate ≡ firstRate (given (now (x)) (now (gain)) (now (dv)) (now (passive)) m target tolerance rule (now (starts)) (now (near)) (now (coef)) (now (volumes))) ⌝ }
-    ensures { λ r. ⌜ standing r (now (design .exit)) ≡ updated (given (now (x .entry)) (now (gain .entry)) (now (dv .entry)) (now (passive .entry)) m target tolerance rule (now (starts .entry)) (now (near .entry)) (now (coef .entry)) (now (volumes .entry))) ⌝ }
+) -> Bracket
+    ghost { Given }
+    requires { λ g. ⌜ given (now x) (now gain) (now dv) (now passive) m target tolerance rule (now starts) (now near) (now coef) (now volumes) ≡ g ⌝ }
+    requires { λ _. ⌜ (length (now gain) ≡ length (now x)) × (length (now dv) ≡ length (now x)) × (length (now passive) ≡ length (now x)) × (length (now design) ≡ length (now x)) × (length (now work) ≡ length (now x)) ⌝ }
+    requires { λ g. ⌜ rate ≡ firstRate g ⌝ }
+    ensures { λ g r. ⌜ standing r (now (design .exit)) ≡ updated g ⌝ }
 {
     let well = tested(rule, starts, near, coef, x.len());
     update_design::design_at(x, gain, passive, m, rate, design);
-    let kept = oc::kept::kept(
+    let kept = oc_kept::kept(
         rule,
         dv,
         well,
@@ -223,7 +229,7 @@ pub fn every(
         &design[..],
         work,
     );
-    let first = Rates {
+    let first = Bracket {
         low: 0.0,
         high: rate,
         kept,

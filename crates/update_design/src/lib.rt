@@ -1,18 +1,8 @@
-// The design at a rate, element by element: `at` of oc.rs.
+// The design at a rate, by the value that each element gets; and what an update asks of designs and gains.
 ghost use mathlib.Core.Path.{_≡_};
 ghost use mathlib.Core.Bool.{true};
-ghost use lib.Ieee.{binary64, lt, mul};
 ghost use lib.ListN.{length};
-ghost use Rattle.lists.specs.Lists.{choose, zero64};
-ghost use Rattle.ieee.specs.Basic.{one64};
-ghost use Rattle.update_design.specs.Design.{gainOf, gainsOf, grown as grownOf, limited as limitedOf, nextOf, designAt, mostOf, sameDesign, tenThousand};
-
-// The work that a value saves for the volume that it costs.
-pub fn gain_of(c: f64, v: f64) -> f64
-    ensures { λ r. ⌜ r ≡ gainOf c v ⌝ }
-{
-    lists::either(v > 0.0, ieee::max(-c, 0.0) / v, 0.0)
-}
+ghost use Rattle.update_design.specs.Design.{gainsOf, designAt, mostOf, sameDesign};
 
 pub fn gains(dc: &[f64], dv: &[f64], gain: &mut [f64])
     requires { ⌜ (length (now dv) ≡ length (now dc)) × (length (now gain) ≡ length (now dc)) ⌝ }
@@ -20,34 +10,9 @@ pub fn gains(dc: &[f64], dv: &[f64], gain: &mut [f64])
 {
     let mut i = 0usize;
     while i < dc.len() {
-        gain[i] = gain_of(dc[i], dv[i]);
+        gain[i] = update_value::gain_of(dc[i], dv[i]);
         i += 1usize;
     }
-}
-
-pub fn grown(old: f64, gain: f64, rate: f64) -> f64
-    ensures { λ r. ⌜ r ≡ grownOf old gain rate ⌝ }
-{
-    if gain > 0.0 {
-        return old * ieee_root::sqrt(gain / rate);
-    }
-    0.0
-}
-
-// Raised to the lower bound, and then lowered to the upper.
-pub fn limited(old: f64, m: f64, v: f64) -> f64
-    ensures { λ r. ⌜ r ≡ limitedOf old m v ⌝ }
-{
-    ieee::min(
-        ieee::max(v, ieee::max(old - m, topo::X_MIN)),
-        ieee::min(old + m, 1.0),
-    )
-}
-
-pub fn next_value(held: bool, old: f64, gain: f64, m: f64, rate: f64) -> f64
-    ensures { λ r. ⌜ r ≡ nextOf held old gain m rate ⌝ }
-{
-    lists::either(held, 1.0, limited(old, m, grown(old, gain, rate)))
 }
 
 // The design at a rate.
@@ -57,7 +22,7 @@ pub fn design_at(x: &[f64], gain: &[f64], passive: &[bool], m: f64, rate: f64, o
 {
     let mut i = 0usize;
     while i < x.len() {
-        out[i] = next_value(passive[i], x[i], gain[i], m, rate);
+        out[i] = update_value::next_value(passive[i], x[i], gain[i], m, rate);
         i += 1usize;
     }
 }
@@ -77,7 +42,7 @@ pub fn design_again(
     let mut same = true;
     let mut i = 0usize;
     while i < x.len() {
-        let v = next_value(passive[i], x[i], gain[i], m, rate);
+        let v = update_value::next_value(passive[i], x[i], gain[i], m, rate);
         same = same & ((v == out[i]) & (v != 0.0));
         out[i] = v;
         i += 1usize;
@@ -122,11 +87,4 @@ pub fn copy(from: &[f64], to: &mut [f64])
         to[i] = from[i];
         i += 1usize;
     }
-}
-
-// The rate to begin at, by the greatest gain.
-pub fn first_rate(most: f64) -> f64
-    ensures { λ r. ⌜ r ≡ choose (lt zero64 most) (mul binary64 tenThousand most) one64 ⌝ }
-{
-    lists::either(most > 0.0, 1e4 * most, 1.0)
 }

@@ -4,8 +4,8 @@ use mathlib.Core.Bool.{false}
 use lib.Ieee.{Float, nan, binary64, add, sub, div, neg, lt, isNan, ofBits}
 use Rattle.lists.specs.Lists.{choose}
 use Rattle.ieee.specs.Basic.{one64, maxOf, minOf}
-use Rattle.oc.specs.Project.{half}
-use Rattle.update_design.specs.Design.{gainOf, grown, limited, nextOf}
+use Rattle.update_rates.specs.Rates.{half}
+use Rattle.update_value.specs.Value.{gainOf, grown, limited, nextOf}
 
 -- 0.2 and 0.3
 abbrev move : Float

@@ -11,10 +11,10 @@ use Rattle.lists.specs.Lists.{choose}
 use Rattle.lists.proofs.Laws.{both}
 use Rattle.ieee.specs.Basic.{absOf}
 use Rattle.filter_table.specs.Table.{Wf}
-use Rattle.oc.specs.Project.{half}
-use Rattle.oc.specs.Record.{two64}
+use Rattle.update_rates.specs.Rates.{half}
+use Rattle.oc_record.specs.Record.{two64}
 use Rattle.update_design.specs.Design.{sameDesign}
-use Rattle.update_rates.specs.Rates.{Given, Stand, trial, reckoned, raises, raised, middle, halves, halved, whileTo}
+use Rattle.update_rates.specs.Rates.{Given, Search, trial, reckoned, raises, raised, middle, halves, halved, whileTo}
 
 -- a well formed table is so for equal counts
 pub wf-at : (starts near : List ℕ) (coef : List Float) (n m n' m' : ℕ) → n ≡ n' → m ≡ m' → Wf starts near coef n m → Wf starts near coef n' m'
@@ -30,6 +30,16 @@ module _ {A : Type 0} (p : A → Bool) (f : A → A) where
   unfolding whileTo
   while-off zero s e = refl
   while-off (suc n) s e = rw (e, whileTo)
+
+  -- what f keeps is kept
+  pub while-keeps : (P : A → Type 0) → ((s : A) → P s → P (f s)) → (n : ℕ) (s : A) → P s → P (whileTo p f n s)
+  unfolding whileTo
+  while-keeps P keep zero s h = h
+  while-keeps P keep (suc n) s h = go (p s) (while-keeps P keep n (f s) (keep s h))
+    where
+      go : (b : Bool) → P (whileTo p f n (f s)) → P (elim b [ true ↦ whileTo p f n (f s) | false ↦ s ])
+      go true k = k
+      go false k = h
 
   -- a turn at k of the most turns
   while-more : (most k : ℕ) (s t : A) → k < most → p s ≡ true → t ≡ f s → whileTo p f (most - (k + 1)) t ≡ whileTo p f (most - k) s
@@ -64,7 +74,7 @@ pass-left t k e = let h : k < 200 = ltb-true k 200 (both t (ltb k 200) e .1) in 
 
 -- ---- the two loops
 module _ (g : Given) (low high kept : Float) (design : List Float) (passes : ℕ) where
-  abbrev stand : Stand
+  abbrev stand : Search
   stand = record { low = low; high = high; design = design; kept = kept; passes = passes }
 
   -- the rate that raising tries, and the one that halving tries

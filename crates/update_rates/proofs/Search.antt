@@ -7,8 +7,8 @@ use lib.Dec.{ltb}
 use lib.Ieee.{Float, binary64, add, sub, mul, lt, le}
 use Rattle.lists.specs.Lists.{choose, zero64}
 use Rattle.ieee.specs.Basic.{absOf}
-use Rattle.oc.specs.Project.{half}
-use Rattle.update_rates.specs.Rates.{Given, Stand, trial, reckoned, firstRate, first, raises, raised, halves, halved, whileTo, raisedAll, updated}
+use Rattle.update_rates.specs.Rates.{half}
+use Rattle.update_rates.specs.Rates.{Given, Search, trial, reckoned, firstRate, first, raises, raised, halves, halved, whileTo, raisedAll, updated}
 use Rattle.update_rates.specs.Steps.{more, off, standAt}
 use Rattle.update_rates.proofs.Loops.{while-off, and-false, halve-more, halve-none, halve-over}
 
@@ -38,7 +38,7 @@ module _ (g : Given) (low high rate : Float) (passes : ℕ) where
 -- where the first rate keeps no more than the target, nothing is raised
 pub searched : (g : Given) (start low high rate kept : Float) (passes : ℕ) (d : List Float) → start ≡ firstRate g → more g start ≡ false
     → standAt g low high rate passes ≡ whileTo (halves g) (halved g) (200 - 1) (standAt g zero64 start start 1)
-    → d ≡ trial g rate → kept ≡ reckoned g d → _≡_ {A = Stand} (record { low = low; high = high; design = d; kept = kept; passes = passes }) (updated g)
+    → d ≡ trial g rate → kept ≡ reckoned g d → _≡_ {A = Search} (record { low = low; high = high; design = d; kept = kept; passes = passes }) (updated g)
 unfolding more standAt first raises raisedAll updated
 searched g start low high rate kept passes d e n s y k =
     let f : standAt g zero64 start start 1 ≡ first g = ap (λ (r : Float). standAt g zero64 r r 1) e in
@@ -46,4 +46,4 @@ searched g start low high rate kept passes d e n s y k =
     let a : first g ≡ raisedAll g = sym (while-off (raises g) (raised g) 199 (first g) r) in
     let b : standAt g zero64 start start 1 ≡ raisedAll g = f ∙ a in
     (λ i. record { low = low; high = high; design = y i; kept = (k ∙ ap (reckoned g) y) i; passes = passes })
-    ∙ s ∙ ap (whileTo (halves g) (halved g) (200 - 1)) b ∙ ap (λ (t : Stand). whileTo (halves g) (halved g) (200 - t .passes) (raisedAll g)) a
+    ∙ s ∙ ap (whileTo (halves g) (halved g) (200 - 1)) b ∙ ap (λ (t : Search). whileTo (halves g) (halved g) (200 - t .passes) (raisedAll g)) a

@@ -6,14 +6,14 @@ use Prim.Native.Nat.{ℕ, zero, suc, _+_, _-_, _≤_}
 use native.Mathlib.Omega.{arith}
 use lib.ListN.{length, length-append, length-map}
 use lib.Ieee.{Float, binary64, mul}
-use Rattle.oc.specs.Record.{two64}
-use Rattle.update_rates.specs.Rates.{Given, Stand, trial, reckoned, firstRate, first, raises, raised, middle, halves, halved, whileTo, raisedAll, updated}
+use Rattle.oc_record.specs.Record.{two64}
+use Rattle.update_rates.specs.Rates.{Given, Search, trial, reckoned, firstRate, first, raises, raised, middle, halves, halved, whileTo, raisedAll, updated}
 use Rattle.update_rates.specs.Tried.{turnsTo, tried, reckonings}
 
-abbrev Counts : ℕ → ℕ → Stand → Type 0
+abbrev Counts : ℕ → ℕ → Search → Type 0
 Counts before more s = s .passes ≡ before + more
 
-turns : {B : Type 0} (p : Stand → Bool) (f : Stand → Stand) (r : Stand → B) → ((s : Stand) → f s .passes ≡ s .passes + 1) → (n : ℕ) (s : Stand) → Counts (s .passes) (length (turnsTo p f r n s)) (whileTo p f n s)
+turns : {B : Type 0} (p : Search → Bool) (f : Search → Search) (r : Search → B) → ((s : Search) → f s .passes ≡ s .passes + 1) → (n : ℕ) (s : Search) → Counts (s .passes) (length (turnsTo p f r n s)) (whileTo p f n s)
 unfolding whileTo turnsTo
 turns p f r one zero s = omega arith
 turns {B = B} p f r one (suc n) s = go (p s) (turns p f r one n (f s))

@@ -2,14 +2,18 @@
 use Prim.Native.Nat.{ℕ, zero, suc, _+_, _-_}
 use mathlib.Core.Bool.{Bool, true, false, not, _&&_, _||_}
 use mathlib.Core.List.{List}
-use lib.Ieee.{Float, binary64, add, sub, mul, lt, le}
+use lib.Ieee.{Float, binary64, add, sub, mul, lt, le, ofBits}
 use Rattle.lists.specs.Lists.{choose, zero64}
 use Rattle.ieee.specs.Basic.{one64, absOf}
-use Rattle.oc.specs.declared.kept.Rule.{Rule}
-use Rattle.oc.specs.Kept.{keptOf}
-use Rattle.oc.specs.Project.{half}
-use Rattle.oc.specs.Record.{two64}
-use Rattle.update_design.specs.Design.{tenThousand, mostOf, designAt, sameDesign}
+use Rattle.oc_kept.specs.declared.Rule.{Rule}
+use Rattle.oc_kept.specs.Kept.{keptOf}
+use Rattle.oc_record.specs.Record.{two64}
+use Rattle.update_value.specs.Value.{tenThousand}
+use Rattle.update_design.specs.Design.{mostOf, designAt, sameDesign}
+
+-- 0.5
+abbrev pub half : Float
+half = ofBits binary64 0x3fe0_0000_0000_0000
 
 -- what an update is given
 pub record Given : Type 0 where
@@ -31,7 +35,7 @@ given x gain dv passive move target tolerance rule starts near coef volumes =
     record { x = x; gain = gain; dv = dv; passive = passive; move = move; target = target; tolerance = tolerance; rule = rule; starts = starts; near = near; coef = coef; volumes = volumes }
 
 -- where it stands: its bracket of rates, the design at the last rate tried, the volume which that keeps, and how many rates were tried
-pub record Stand : Type 0 where
+pub record Search : Type 0 where
   pub low : Float
   pub high : Float
   pub design : List Float
@@ -50,27 +54,27 @@ module _ (g : Given) where
   unfoldable pub firstRate : Float
   firstRate = let most = mostOf (g .gain) (g .passive) in choose (lt zero64 most) (mul binary64 tenThousand most) one64
 
-  unfoldable pub first : Stand
+  unfoldable pub first : Search
   first = let y = trial firstRate in record { low = zero64; high = firstRate; design = y; kept = reckoned y; passes = 1 }
 
   -- the upper rate is doubled while more than the target is kept, unless that gives the same design: comparing is no reckoning
-  unfoldable pub raises : Stand → Bool
+  unfoldable pub raises : Search → Bool
   raises s = lt (g .target) (s .kept) && not (sameDesign (trial (mul binary64 two64 (s .high))) (s .design))
 
-  unfoldable pub raised : Stand → Stand
+  unfoldable pub raised : Search → Search
   raised s =
       let rate = mul binary64 two64 (s .high) in
       let y = trial rate in
       record { low = s .high; high = rate; design = y; kept = reckoned y; passes = s .passes + 1 }
 
-  unfoldable pub middle : Stand → Float
+  unfoldable pub middle : Search → Float
   middle s = mul binary64 half (add binary64 (s .low) (s .high))
 
   -- the bracket is halved while the kept volume is off the target and a rate lies between
-  unfoldable pub halves : Stand → Bool
+  unfoldable pub halves : Search → Bool
   halves s = lt (g .tolerance) (absOf (sub binary64 (s .kept) (g .target))) && not (le (middle s) (s .low) || le (s .high) (middle s))
 
-  unfoldable pub halved : Stand → Stand
+  unfoldable pub halved : Search → Search
   halved s =
       let rate = middle s in
       let y = trial rate in
@@ -84,13 +88,13 @@ whileTo p f zero s = s
 whileTo p f (suc n) s = elim (p s) [ true ↦ whileTo p f n (f s) | false ↦ s ]
 
 -- PASSES
-abbrev pub most : ℕ
-most = 200
+abbrev pub passesAllowed : ℕ
+passesAllowed = 200
 
 module _ (g : Given) where
   -- "at most 200 reckonings": the first one, and as many more as are left
-  unfoldable pub raisedAll : Stand
-  raisedAll = whileTo (raises g) (raised g) (most - 1) (first g)
+  unfoldable pub raisedAll : Search
+  raisedAll = whileTo (raises g) (raised g) (passesAllowed - 1) (first g)
 
-  unfoldable pub updated : Stand
-  updated = whileTo (halves g) (halved g) (most - raisedAll .passes) raisedAll
+  unfoldable pub updated : Search
+  updated = whileTo (halves g) (halved g) (passesAllowed - raisedAll .passes) raisedAll

@@ -4,8 +4,8 @@ use mathlib.Core.List.{List}
 use Prim.Native.Nat.{ℕ}
 use lib.Ieee.{Float, binary64, sub, lt, ofBits}
 use Rattle.ieee.specs.Basic.{absOf}
-use Rattle.update_rates.specs.declared.Rates.{Rates}
-use Rattle.update_rates.specs.Rates.{Given, Stand, trial, reckoned}
+use Rattle.update_rates.specs.declared.Bracket.{Bracket}
+use Rattle.update_rates.specs.Rates.{Given, Search, trial, reckoned}
 
 -- one rounding below 0.001. 01: "The starting density may be one rounding below 0.001; updates never are."
 abbrev pub lowest : Float
@@ -20,9 +20,9 @@ module _ (g : Given) where
   off rate = lt (g .tolerance) (absOf (sub binary64 (reckoned g (trial g rate)) (g .target)))
 
   -- where an update stands at a rate
-  unfoldable pub standAt : Float → Float → Float → ℕ → Stand
+  unfoldable pub standAt : Float → Float → Float → ℕ → Search
   standAt low high rate passes = record { low = low; high = high; design = trial g rate; kept = reckoned g (trial g rate); passes = passes }
 
 -- the code's account of where an update stands, with the design beside it
-abbrev pub standing : Rates → List Float → Stand
+abbrev pub standing : Bracket → List Float → Search
 standing r design = record { low = r .low; high = r .high; design = design; kept = r .kept; passes = r .passes }

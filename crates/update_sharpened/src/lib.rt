@@ -5,11 +5,11 @@ ghost use Prim.Native.Nat.{_-_, _<_};
 ghost use lib.ListN.{length};
 ghost use Rattle.lists.specs.Lists.{zero64};
 ghost use Rattle.filter_table.specs.Table.{Wf};
-ghost use Rattle.update_rates.specs.Rates.{given, trial, reckoned, whileTo, halves, halved, firstRate, updated};
+ghost use Rattle.update_rates.specs.Rates.{Given, given, trial, reckoned, whileTo, halves, halved, firstRate, updated};
 ghost use Rattle.update_rates.specs.Steps.{standAt, standing};
-use oc::kept::Rule;
+use oc_kept::Rule;
+use update_rates::Bracket;
 use update_rates::PASSES;
-use update_rates::Rates;
 
 // The volume that the rate tried keeps; the rate whose volume is reckoned ahead; and the volumes of the two designs at hand, of which the
 // second is that rate's.
@@ -72,10 +72,12 @@ fn volume_at(
     design: &mut [f64],
     work: &mut [f64],
 ) -> Ahead
-    requires { ⌜ (length (now gain) ≡ length (now x)) × (length (now passive) ≡ length (now x)) × (length (now design) ≡ length (now x)) × (length (now work) ≡ length (now x)) ⌝ }
-    requires { ⌜ Wf (now starts) (now near) (now coef) (length (now x)) (length (now x)) ⌝ }
-    requires { ⌜ (one ≡ reckoned (given (now (x)) (now (gain)) (now (dv)) (now (passive)) m target tolerance (Rule.Sharpened beta) (now (starts)) (now (near)) (now (coef)) (now (volumes))) (now design)) × (two ≡ reckoned (given (now (x)) (now (gain)) (now (dv)) (now (passive)) m target tolerance (Rule.Sharpened beta) (now (starts)) (now (near)) (now (coef)) (now (volumes))) (now work)) × (now work ≡ trial (given (now (x)) (now (gain)) (now (dv)) (now (passive)) m target tolerance (Rule.Sharpened beta) (now (starts)) (now (near)) (now (coef)) (now (volumes))) ahead) ⌝ }
-    ensures { λ r. ⌜ (r .kept ≡ reckoned (given (now (x .entry)) (now (gain .entry)) (now (dv .entry)) (now (passive .entry)) m target tolerance (Rule.Sharpened beta) (now (starts .entry)) (now (near .entry)) (now (coef .entry)) (now (volumes .entry))) (trial (given (now (x .entry)) (now (gain .entry)) (now (dv .entry)) (now (passive .entry)) m target tolerance (Rule.Sharpened beta) (now (starts .entry)) (now (near .entry)) (now (coef .entry)) (now (volumes .entry))) rate)) × (r .one ≡ reckoned (given (now (x .entry)) (now (gain .entry)) (now (dv .entry)) (now (passive .entry)) m target tolerance (Rule.Sharpened beta) (now (starts .entry)) (now (near .entry)) (now (coef .entry)) (now (volumes .entry))) (now (design .exit))) × (r .two ≡ reckoned (given (now (x .entry)) (now (gain .entry)) (now (dv .entry)) (now (passive .entry)) m target tolerance (Rule.Sharpened beta) (now (starts .entry)) (now (near .entry)) (now (coef .entry)) (now (volumes .entry))) (now (work .exit))) × (now (work .exit) ≡ trial (given (now (x .entry)) (now (gain .entry)) (now (dv .entry)) (now (passive .entry)) m target tolerance (Rule.Sharpened beta) (now (starts .entry)) (now (near .entry)) (now (coef .entry)) (now (volumes .entry))) (r .next)) ⌝ }
+    ghost { Given }
+    requires { λ g. ⌜ given (now x) (now gain) (now dv) (now passive) m target tolerance (Rule.Sharpened beta) (now starts) (now near) (now coef) (now volumes) ≡ g ⌝ }
+    requires { λ _. ⌜ (length (now gain) ≡ length (now x)) × (length (now passive) ≡ length (now x)) × (length (now design) ≡ length (now x)) × (length (now work) ≡ length (now x)) ⌝ }
+    requires { λ _. ⌜ Wf (now starts) (now near) (now coef) (length (now x)) (length (now x)) ⌝ }
+    requires { λ g. ⌜ (one ≡ reckoned g (now design)) × (two ≡ reckoned g (now work)) × (now work ≡ trial g ahead) ⌝ }
+    ensures { λ g r. ⌜ (r .kept ≡ reckoned g (trial g rate)) × (r .one ≡ reckoned g (now (design .exit))) × (r .two ≡ reckoned g (now (work .exit))) × (now (work .exit) ≡ trial g (r .next)) ⌝ }
 {
     if (rate == ahead) & (rate != 0.0) {
         return Ahead {
@@ -131,10 +133,12 @@ fn search(
     design: &mut [f64],
     work: &mut [f64],
 ) -> Reached
-    requires { ⌜ (length (now gain) ≡ length (now x)) × (length (now passive) ≡ length (now x)) × (length (now design) ≡ length (now x)) × (length (now work) ≡ length (now x)) ⌝ }
-    requires { ⌜ Wf (now starts) (now near) (now coef) (length (now x)) (length (now x)) ⌝ }
-    requires { ⌜ (begun .kept ≡ reckoned (given (now (x)) (now (gain)) (now (dv)) (now (passive)) m target tolerance (Rule.Sharpened beta) (now (starts)) (now (near)) (now (coef)) (now (volumes))) (trial (given (now (x)) (now (gain)) (now (dv)) (now (passive)) m target tolerance (Rule.Sharpened beta) (now (starts)) (now (near)) (now (coef)) (now (volumes))) first)) × (begun .one ≡ reckoned (given (now (x)) (now (gain)) (now (dv)) (now (passive)) m target tolerance (Rule.Sharpened beta) (now (starts)) (now (near)) (now (coef)) (now (volumes))) (now design)) × (begun .two ≡ reckoned (given (now (x)) (now (gain)) (now (dv)) (now (passive)) m target tolerance (Rule.Sharpened beta) (now (starts)) (now (near)) (now (coef)) (now (volumes))) (now work)) × (now work ≡ trial (given (now (x)) (now (gain)) (now (dv)) (now (passive)) m target tolerance (Rule.Sharpened beta) (now (starts)) (now (near)) (now (coef)) (now (volumes))) (begun .next)) ⌝ }
-    ensures { λ r. ⌜ (standAt (given (now (x .entry)) (now (gain .entry)) (now (dv .entry)) (now (passive .entry)) m target tolerance (Rule.Sharpened beta) (now (starts .entry)) (now (near .entry)) (now (coef .entry)) (now (volumes .entry))) (r .low) (r .high) (r .rate) (r .passes) ≡ whileTo (halves (given (now (x .entry)) (now (gain .entry)) (now (dv .entry)) (now (passive .entry)) m target tolerance (Rule.Sharpened beta) (now (starts .entry)) (now (near .entry)) (now (coef .entry)) (now (volumes .entry)))) (halved (given (now (x .entry)) (now (gain .entry)) (now (dv .entry)) (now (passive .entry)) m target tolerance (Rule.Sharpened beta) (now (starts .entry)) (now (near .entry)) (now (coef .entry)) (now (volumes .entry)))) (200 - 1) (standAt (given (now (x .entry)) (now (gain .entry)) (now (dv .entry)) (now (passive .entry)) m target tolerance (Rule.Sharpened beta) (now (starts .entry)) (now (near .entry)) (now (coef .entry)) (now (volumes .entry))) zero64 first first 1)) × (r .kept ≡ reckoned (given (now (x .entry)) (now (gain .entry)) (now (dv .entry)) (now (passive .entry)) m target tolerance (Rule.Sharpened beta) (now (starts .entry)) (now (near .entry)) (now (coef .entry)) (now (volumes .entry))) (trial (given (now (x .entry)) (now (gain .entry)) (now (dv .entry)) (now (passive .entry)) m target tolerance (Rule.Sharpened beta) (now (starts .entry)) (now (near .entry)) (now (coef .entry)) (now (volumes .entry))) (r .rate))) ⌝ }
+    ghost { Given }
+    requires { λ g. ⌜ given (now x) (now gain) (now dv) (now passive) m target tolerance (Rule.Sharpened beta) (now starts) (now near) (now coef) (now volumes) ≡ g ⌝ }
+    requires { λ _. ⌜ (length (now gain) ≡ length (now x)) × (length (now passive) ≡ length (now x)) × (length (now design) ≡ length (now x)) × (length (now work) ≡ length (now x)) ⌝ }
+    requires { λ _. ⌜ Wf (now starts) (now near) (now coef) (length (now x)) (length (now x)) ⌝ }
+    requires { λ g. ⌜ (begun .kept ≡ reckoned g (trial g first)) × (begun .one ≡ reckoned g (now design)) × (begun .two ≡ reckoned g (now work)) × (now work ≡ trial g (begun .next)) ⌝ }
+    ensures { λ g r. ⌜ (standAt g (r .low) (r .high) (r .rate) (r .passes) ≡ whileTo (halves g) (halved g) (200 - 1) (standAt g zero64 first first 1)) × (r .kept ≡ reckoned g (trial g (r .rate))) ⌝ }
 {
     let mut low = 0.0;
     let mut most = 1.0 / 0.0;
@@ -221,10 +225,12 @@ pub fn sharpened(
     first: f64,
     design: &mut [f64],
     work: &mut [f64],
-) -> Rates
-    requires { ⌜ (length (now gain) ≡ length (now x)) × (length (now passive) ≡ length (now x)) × (length (now design) ≡ length (now x)) × (length (now work) ≡ length (now x)) ⌝ }
-    requires { ⌜ first ≡ firstRate (given (now (x)) (now (gain)) (now (dv)) (now (passive)) m target tolerance (Rule.Sharpened beta) (now (starts)) (now (near)) (now (coef)) (now (volumes))) ⌝ }
-    ensures { λ r. ⌜ (0 < r .passes → standing r (now (design .exit)) ≡ updated (given (now (x .entry)) (now (gain .entry)) (now (dv .entry)) (now (passive .entry)) m target tolerance (Rule.Sharpened beta) (now (starts .entry)) (now (near .entry)) (now (coef .entry)) (now (volumes .entry)))) ⌝ }
+) -> Bracket
+    ghost { Given }
+    requires { λ g. ⌜ given (now x) (now gain) (now dv) (now passive) m target tolerance (Rule.Sharpened beta) (now starts) (now near) (now coef) (now volumes) ≡ g ⌝ }
+    requires { λ _. ⌜ (length (now gain) ≡ length (now x)) × (length (now passive) ≡ length (now x)) × (length (now design) ≡ length (now x)) × (length (now work) ≡ length (now x)) ⌝ }
+    requires { λ g. ⌜ first ≡ firstRate g ⌝ }
+    ensures { λ g r. ⌜ (0 < r .passes → standing r (now (design .exit)) ≡ updated g) ⌝ }
 {
     if filter_table::well(starts, near, coef, x.len(), x.len()) {
         let next = 0.5 * first;
@@ -269,7 +275,7 @@ pub fn sharpened(
             work,
         );
         update_design::design_at(x, gain, passive, m, t.rate, design);
-        return Rates {
+        return Bracket {
             low: t.low,
             high: t.high,
             kept: t.kept,
@@ -279,10 +285,10 @@ pub fn sharpened(
     none()
 }
 
-fn none() -> Rates
+fn none() -> Bracket
     ensures { λ r. ⌜ r .passes ≡ 0 ⌝ }
 {
-    Rates {
+    Bracket {
         low: 0.0,
         high: 0.0,
         kept: 0.0,

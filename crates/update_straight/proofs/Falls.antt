@@ -6,7 +6,7 @@ use Prim.Native.Nat.{ℕ, zero, suc, _<_, min}
 use native.Mathlib.Omega.{arith}
 use lib.Dec.{T}
 use lib.ListN.{length, getD}
-use lib.Ieee.{Float, nan, binary64, add, sub, mul, div, lt, le, isNan, ofBits}
+use lib.Ieee.{Float, nan, binary64, add, sub, mul, div, lt, le, isNan, fits, ofBits}
 use lib.Ieee.Fits.{div-fits}
 use lib.Ieee.Positive.{positive, between}
 use Rattle.lists.specs.Lists.{foldTo, sumTo, choose, zero64}
@@ -16,14 +16,30 @@ use Rattle.ieee_root.specs.Sqrt.{sqrtOf}
 use Rattle.ieee.proofs.Order.{le-reflexive, le-transitive, le-number, le-not-lt}
 use Rattle.ieee.proofs.Bounds.{lt-le, not-lt-le, max-right, mul-grows}
 use Rattle.ieee_root.proofs.Monotone.{sqrt-mono}
-use Rattle.oc.specs.declared.kept.Rule.the-variants.{Straight}
-use Rattle.oc.specs.Start.{xMin}
-use Rattle.oc.specs.Record.{dot}
-use Rattle.oc.specs.Kept.{keptOf}
-use Rattle.update_design.specs.Design.{grown, limited, nextOf, designAt}
+use Rattle.oc_kept.specs.declared.Rule.the-variants.{Straight}
+use Rattle.oc_goal.specs.Goal.{xMin}
+use Rattle.oc_record.specs.Record.{dot}
+use Rattle.oc_kept.specs.Kept.{keptOf}
+use Rattle.update_value.specs.Value.{grown, limited, nextOf}
+use Rattle.update_design.specs.Design.{designAt}
 use Rattle.update_rates.specs.Rates.{Given, trial, reckoned}
 use Rattle.ieee_lanes.proofs.Order.{Plus, Finite, finite-plus, plus-above, positive-finite, lt-of-lt-of-le, add-plus, add-grows, mul-plus, mul-rises, div-plus, div-falls, sqrt-plus, max-rises, min-rises, farther-above, farther-below}
-use Rattle.update_rates.proofs.Bounds.{Old, Move, old-positive, lo, hi, bounds, least-lo, limited-bounded}
+use Rattle.update_rates.specs.Keeps.{Range, Move}
+use Rattle.update_rates.specs.Steps.{lowest}
+use Rattle.update_rates.proofs.Bounds.{lo, hi, in-range, bounds, least-lo, limited-bounded}
+
+-- a value that a design of a run can have: from one rounding below 0.001 to 1
+pub record Old (x : Float) : Type 0 where
+  pub fit : T (fits binary64 x)
+  pub least : T (le lowest x)
+  pub most : T (le x one64)
+
+old-positive : (x : Float) → Old x → T (positive x)
+unfolding ofBits
+old-positive x o = between lowest x one64 tt tt (o .least) (o .most)
+
+old-range : (x : Float) → Old x → Range x
+old-range x o = in-range x (o .fit) (positive-finite x (old-positive x o)) (o .most)
 
 -- ---- sums
 record Shares (u v : Float) : Type 0 where
@@ -62,11 +78,11 @@ module _ (r r' : Float) (p : T (positive r)) (p' : T (positive r')) (h : T (le r
   unfolding nextOf limited choose
   next-falls true old gain m o k f = unfold le ofBits in tt
   next-falls false old gain m o k f =
-      let l = le-number xMin (lo old m o k) (least-lo old m o k) in
-      min-rises (maxOf (grown old gain r') (lo old m o k)) (maxOf (grown old gain r) (lo old m o k)) (hi old m o k)
-      (le-number (lo old m o k) (maxOf (grown old gain r') (lo old m o k)) (max-right (grown old gain r') (lo old m o k) l))
-      (max-rises (grown old gain r') (grown old gain r) (lo old m o k) (grown-falls old gain (old-positive old m o k) f) l)
-      (le-number (lo old m o k) (hi old m o k) (bounds old m o k))
+      let l = le-number xMin (lo old m) (least-lo old m (old-range old o) k) in
+      min-rises (maxOf (grown old gain r') (lo old m)) (maxOf (grown old gain r) (lo old m)) (hi old m)
+      (le-number (lo old m) (maxOf (grown old gain r') (lo old m)) (max-right (grown old gain r') (lo old m) l))
+      (max-rises (grown old gain r') (grown old gain r) (lo old m) (grown-falls old gain (old-positive old o) f) l)
+      (le-number (lo old m) (hi old m) (bounds old m (old-range old o) k))
 
 -- ---- the whole design
 
@@ -96,7 +112,7 @@ module _ (g : Given) (solid : Float) (o : Orderly g solid) where
       go : (t : Bool) → Finite (choose t one64 (limited (getD (g .x) k nan) (g .move) (grown (getD (g .x) k nan) (getD (g .gain) k nan) r)))
       go true = positive-finite one64 (unfold ofBits in tt)
       go false =
-          let b = limited-bounded (getD (g .x) k nan) (g .move) (o .old k h) (o .move-is) (grown (getD (g .x) k nan) (getD (g .gain) k nan) r) in
+          let b = limited-bounded (getD (g .x) k nan) (g .move) (old-range (getD (g .x) k nan) (o .old k h)) (o .move-is) (grown (getD (g .x) k nan) (getD (g .gain) k nan) r) in
           positive-finite _ (between xMin _ one64 (unfold ofBits in tt) (unfold ofBits in tt) (b .least) (b .most))
 
   dot-is : (r : Float) → dot (g .dv) (trial g r) ≡ sumTo (λ k. mul binary64 (getD (g .dv) k nan) (getD (trial g r) k nan)) (length (g .x))

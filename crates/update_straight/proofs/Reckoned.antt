@@ -8,8 +8,9 @@ use lib.ListN.{length, getD}
 use lib.Ieee.{Float, nan, binary64, add, mul}
 use Rattle.lists.specs.Lists.{foldTo, sumTo}
 use Rattle.lists.proofs.Laws.{getD-tabulate, length-tabulate}
-use Rattle.oc.specs.Record.{dot}
-use Rattle.update_design.specs.Design.{nextOf, designAt}
+use Rattle.oc_record.specs.Record.{dot}
+use Rattle.update_value.specs.Value.{nextOf}
+use Rattle.update_design.specs.Design.{designAt}
 
 -- two sums of equal parts
 sum-same : (u v : ℕ → Float) (n : ℕ) → ((k : ℕ) → k < n → u k ≡ v k) → sumTo u n ≡ sumTo v n

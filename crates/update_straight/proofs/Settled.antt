@@ -13,10 +13,10 @@ use Rattle.lists.proofs.Laws.{any-not, both}
 use Rattle.ieee.specs.Basic.{one64, absOf}
 use Rattle.ieee.proofs.Basic.{holds}
 use Rattle.ieee.proofs.Order.{le-not-lt}
-use Rattle.oc.specs.declared.kept.Rule.the-variants.{Straight}
-use Rattle.oc.specs.Start.{xMin}
-use Rattle.oc.specs.Record.{dot}
-use Rattle.oc.specs.Kept.{keptOf}
+use Rattle.oc_kept.specs.declared.Rule.the-variants.{Straight}
+use Rattle.oc_goal.specs.Goal.{xMin}
+use Rattle.oc_record.specs.Record.{dot}
+use Rattle.oc_kept.specs.Kept.{keptOf}
 use Rattle.update_straight.specs.declared.Known.{Known}
 use Rattle.update_design.specs.Design.{designAt}
 use Rattle.update_rates.specs.Rates.{Given, given, trial, reckoned}

@@ -6,7 +6,7 @@ use lib.ListN.{length, getD}
 use lib.Ieee.{Float, nan, binary64, div, lt, le}
 use Rattle.lists.specs.Lists.{anyTo, zero64}
 use Rattle.ieee.specs.Basic.{one64}
-use Rattle.oc.specs.Start.{xMin}
+use Rattle.oc_goal.specs.Goal.{xMin}
 use Rattle.update_rates.specs.Rates.{Given}
 use Rattle.update_rates.specs.Steps.{lowest, more, off}
 use Rattle.update_straight.specs.declared.Known.{Known}

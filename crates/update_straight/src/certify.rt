@@ -3,12 +3,12 @@ ghost use mathlib.Core.Path.{_≡_};
 ghost use mathlib.Core.List.{[]};
 ghost use lib.ListN.{length};
 ghost use lib.Ieee.{binary64, add};
-ghost use Rattle.oc.specs.Record.{dot};
+ghost use Rattle.oc_record.specs.Record.{dot};
 ghost use Rattle.update_design.specs.Design.{designAt};
 ghost use Rattle.update_rates.specs.Rates.{given};
 ghost use Rattle.update_straight.specs.Steps.{usual as usualOf, orderly as orderlyOf, Knows};
 use crate::Known;
-use oc::kept::Rule;
+use oc_kept::Rule;
 
 // One rounding below X_MIN: the least that a design begins with.
 const LOWEST: f64 = 0.0009999999999999998;
@@ -49,7 +49,7 @@ pub fn kept_at(
     let mut t = 0.0;
     let mut i = 0usize;
     while i < x.len() {
-        t = t + dv[i] * update_design::next_value(passive[i], x[i], gain[i], m, rate);
+        t = t + dv[i] * update_value::next_value(passive[i], x[i], gain[i], m, rate);
         i += 1usize;
     }
     solid + t

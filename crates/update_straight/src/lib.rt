@@ -9,12 +9,12 @@ ghost use mathlib.Core.List.{[]};
 ghost use Prim.Native.Nat.{_-_, _<_};
 ghost use lib.ListN.{length};
 ghost use Rattle.lists.specs.Lists.{zero64};
-ghost use Rattle.update_rates.specs.Rates.{given, whileTo, halves, halved, firstRate, updated};
+ghost use Rattle.update_rates.specs.Rates.{Given, given, whileTo, halves, halved, firstRate, updated};
 ghost use Rattle.update_rates.specs.Steps.{more as moreAt, off as offAt, standAt, standing};
 ghost use Rattle.update_straight.specs.Steps.{Knows};
-use oc::kept::Rule;
+use oc_kept::Rule;
+use update_rates::Bracket;
 use update_rates::PASSES;
-use update_rates::Rates;
 
 // The greatest rate known to keep too much, and the least known to keep too little.
 pub struct Known {
@@ -30,7 +30,7 @@ pub struct Tried {
     pub passes: usize,
 }
 
-pub struct Verdict {
+pub struct Side {
     pub more: bool,
     pub off: bool,
 }
@@ -47,27 +47,29 @@ fn judge(
     solid: f64,
     known: Known,
     rate: f64,
-) -> Verdict
-    requires { ⌜ (length (now gain) ≡ length (now x)) × (length (now dv) ≡ length (now x)) × (length (now passive) ≡ length (now x)) ⌝ }
-    requires { ⌜ Knows (given (now (x)) (now (gain)) (now (dv)) (now (passive)) m target tolerance (Rule.Straight solid) [] [] [] []) known ⌝ }
-    ensures { λ r. ⌜ (r .more ≡ moreAt (given (now (x .entry)) (now (gain .entry)) (now (dv .entry)) (now (passive .entry)) m target tolerance (Rule.Straight solid) [] [] [] []) rate) × (r .off ≡ offAt (given (now (x .entry)) (now (gain .entry)) (now (dv .entry)) (now (passive .entry)) m target tolerance (Rule.Straight solid) [] [] [] []) rate) ⌝ }
+) -> Side
+    ghost { Given }
+    requires { λ g. ⌜ given (now x) (now gain) (now dv) (now passive) m target tolerance (Rule.Straight solid) [] [] [] [] ≡ g ⌝ }
+    requires { λ _. ⌜ (length (now gain) ≡ length (now x)) × (length (now dv) ≡ length (now x)) × (length (now passive) ≡ length (now x)) ⌝ }
+    requires { λ g. ⌜ Knows g known ⌝ }
+    ensures { λ g r. ⌜ (r .more ≡ moreAt g rate) × (r .off ≡ offAt g rate) ⌝ }
 {
     let below = known.below;
     let above = known.above;
     if (rate > 0.0) & (rate <= below) {
-        return Verdict {
+        return Side {
             more: true,
             off: true,
         };
     }
     if (above <= rate) & (rate < 1.0 / 0.0) {
-        return Verdict {
+        return Side {
             more: false,
             off: true,
         };
     }
     let kept = certify::kept_at(x, gain, dv, passive, m, solid, rate);
-    Verdict {
+    Side {
         more: kept > target,
         off: ieee::abs(kept - target) > tolerance,
     }
@@ -85,10 +87,12 @@ fn search(
     known: Known,
     first: f64,
 ) -> Tried
-    requires { ⌜ (length (now gain) ≡ length (now x)) × (length (now dv) ≡ length (now x)) × (length (now passive) ≡ length (now x)) ⌝ }
-    requires { ⌜ Knows (given (now (x)) (now (gain)) (now (dv)) (now (passive)) m target tolerance (Rule.Straight solid) [] [] [] []) known ⌝ }
-    requires { ⌜ offAt (given (now (x)) (now (gain)) (now (dv)) (now (passive)) m target tolerance (Rule.Straight solid) [] [] [] []) first ≡ true ⌝ }
-    ensures { λ r. ⌜ standAt (given (now (x .entry)) (now (gain .entry)) (now (dv .entry)) (now (passive .entry)) m target tolerance (Rule.Straight solid) [] [] [] []) (r .low) (r .high) (r .rate) (r .passes) ≡ whileTo (halves (given (now (x .entry)) (now (gain .entry)) (now (dv .entry)) (now (passive .entry)) m target tolerance (Rule.Straight solid) [] [] [] [])) (halved (given (now (x .entry)) (now (gain .entry)) (now (dv .entry)) (now (passive .entry)) m target tolerance (Rule.Straight solid) [] [] [] [])) (200 - 1) (standAt (given (now (x .entry)) (now (gain .entry)) (now (dv .entry)) (now (passive .entry)) m target tolerance (Rule.Straight solid) [] [] [] []) zero64 first first 1) ⌝ }
+    ghost { Given }
+    requires { λ g. ⌜ given (now x) (now gain) (now dv) (now passive) m target tolerance (Rule.Straight solid) [] [] [] [] ≡ g ⌝ }
+    requires { λ _. ⌜ (length (now gain) ≡ length (now x)) × (length (now dv) ≡ length (now x)) × (length (now passive) ≡ length (now x)) ⌝ }
+    requires { λ g. ⌜ Knows g known ⌝ }
+    requires { λ g. ⌜ offAt g first ≡ true ⌝ }
+    ensures { λ g r. ⌜ standAt g (r .low) (r .high) (r .rate) (r .passes) ≡ whileTo (halves g) (halved g) (200 - 1) (standAt g zero64 first first 1) ⌝ }
 {
     let mut low = 0.0;
     let mut high = first;
@@ -144,10 +148,12 @@ pub fn straight(
     first: f64,
     design: &mut [f64],
     work: &mut [f64],
-) -> Rates
-    requires { ⌜ (length (now gain) ≡ length (now x)) × (length (now dv) ≡ length (now x)) × (length (now passive) ≡ length (now x)) × (length (now design) ≡ length (now x)) × (length (now work) ≡ length (now x)) ⌝ }
-    requires { ⌜ first ≡ firstRate (given (now (x)) (now (gain)) (now (dv)) (now (passive)) m target tolerance (Rule.Straight solid) [] [] [] []) ⌝ }
-    ensures { λ r. ⌜ (0 < r .passes → standing r (now (design .exit)) ≡ updated (given (now (x .entry)) (now (gain .entry)) (now (dv .entry)) (now (passive .entry)) m target tolerance (Rule.Straight solid) [] [] [] [])) ⌝ }
+) -> Bracket
+    ghost { Given }
+    requires { λ g. ⌜ given (now x) (now gain) (now dv) (now passive) m target tolerance (Rule.Straight solid) [] [] [] [] ≡ g ⌝ }
+    requires { λ _. ⌜ (length (now gain) ≡ length (now x)) × (length (now dv) ≡ length (now x)) × (length (now passive) ≡ length (now x)) × (length (now design) ≡ length (now x)) × (length (now work) ≡ length (now x)) ⌝ }
+    requires { λ g. ⌜ first ≡ firstRate g ⌝ }
+    ensures { λ g r. ⌜ (0 < r .passes → standing r (now (design .exit)) ≡ updated g) ⌝ }
 {
     guess::reaches(x, gain, passive, work);
     let likely = guess::guess(x, &work[..], dv, m, target, tolerance, solid, first);
@@ -167,15 +173,15 @@ pub fn straight(
             first,
         );
         update_design::design_at(x, gain, passive, m, t.rate, design);
-        let kept = solid + oc::record::dot(dv, &design[..]);
-        return Rates {
+        let kept = solid + oc_record::dot(dv, &design[..]);
+        return Bracket {
             low: t.low,
             high: t.high,
             kept,
             passes: t.passes,
         };
     }
-    Rates {
+    Bracket {
         low: 0.0,
         high: 0.0,
         kept: 0.0,

@@ -11,10 +11,10 @@ use Rattle.lists.proofs.Laws.{sumTo-more, getD-tabulate, length-tabulate}
 use Rattle.ieee.specs.Basic.{one64, clampOf}
 use Rattle.ieee_tanh.specs.Tanh.{tanhOf}
 use Rattle.filter_table.specs.Table.{rowSum, applied}
-use Rattle.oc.specs.declared.seen.Sharpness.the-variants.{At}
-use Rattle.oc.specs.Project.{belowOf, wholeOf, turned, projected}
-use Rattle.oc.specs.Record.{dot}
-use Rattle.oc.specs.Seen.{sharpened, elementDensity, densities, seenDensity}
+use Rattle.oc_seen.specs.declared.Sharpness.the-variants.{At}
+use Rattle.oc_project.specs.Project.{belowOf, wholeOf, turned, projected}
+use Rattle.oc_record.specs.Record.{dot}
+use Rattle.oc_seen.specs.Seen.{sharpened, elementDensity, densities, seenDensity}
 use Rattle.update_two.specs.Part.{bent, part}
 
 -- ---- one element

@@ -6,13 +6,13 @@ use lib.ListN.{getD}
 use lib.Ieee.{Float, nan, binary64, sub, mul}
 use Rattle.ieee.specs.Basic.{clampOf}
 use Rattle.filter_table.specs.Table.{rowSum}
-use Rattle.oc.specs.declared.seen.Sharpness.the-variants.{At}
-use Rattle.oc.specs.Project.{half}
-use Rattle.oc.specs.Seen.{elementDensity}
+use Rattle.oc_seen.specs.declared.Sharpness.the-variants.{At}
+use Rattle.oc_project.specs.Project.{projectAt}
+use Rattle.oc_seen.specs.Seen.{elementDensity}
 
 -- what `project` takes the tanh of, from a filtered value
 unfoldable pub bent : Float → Float → Float
-bent beta v = mul binary64 beta (sub binary64 (clampOf v) half)
+bent beta v = mul binary64 beta (sub binary64 (clampOf v) projectAt)
 
 unfoldable pub part : Float → List ℕ → List ℕ → List Float → List Float → List Bool → List Float → ℕ → Float
 part beta starts near coef volumes passive y e =

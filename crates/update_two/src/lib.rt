@@ -8,12 +8,12 @@ ghost use lib.Ieee.{nan, binary64, add, mul, div};
 ghost use Rattle.lists.specs.Lists.{sumTo, choose};
 ghost use Rattle.ieee.specs.Basic.{one64};
 ghost use Rattle.filter_table.specs.Table.{Wf, Within, rowSum};
-ghost use Rattle.oc.specs.declared.seen.Sharpness.the-variants.{At};
-ghost use Rattle.oc.specs.Project.{belowOf, wholeOf};
-ghost use Rattle.oc.specs.Record.{dot};
-ghost use Rattle.oc.specs.Seen.{seenDensity};
+ghost use Rattle.oc_seen.specs.declared.Sharpness.the-variants.{At};
+ghost use Rattle.oc_project.specs.Project.{belowOf, wholeOf};
+ghost use Rattle.oc_record.specs.Record.{dot};
+ghost use Rattle.oc_seen.specs.Seen.{seenDensity};
 ghost use Rattle.update_two.specs.Part.{bent as bentOf, part};
-use oc::seen::Projection;
+use oc_project::Projection;
 
 // A number of each design.
 pub struct Two {
@@ -157,7 +157,7 @@ pub fn kept(
     requires { ⌜ Wf (now starts) (now near) (now coef) (length (now passive)) (length (now x)) × (length (now y) ≡ length (now x)) ⌝ }
     ensures { λ r. ⌜ (r .a ≡ dot (now (volumes .entry)) (seenDensity (At beta) (now (starts .entry)) (now (near .entry)) (now (coef .entry)) (now (passive .entry)) (now (x .entry)))) × (r .b ≡ dot (now (volumes .entry)) (seenDensity (At beta) (now (starts .entry)) (now (near .entry)) (now (coef .entry)) (now (passive .entry)) (now (y .entry)))) ⌝ }
 {
-    let at = oc::seen::at_steepness(beta);
+    let at = oc_project::at_steepness(beta);
     let n = lists::lesser(volumes.len(), passive.len());
     let mut sum = Two { a: 0.0, b: 0.0 };
     let mut e = 0usize;

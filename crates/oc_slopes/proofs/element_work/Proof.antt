@@ -1,5 +1,5 @@
 -- `oc_slopes::element_work` meets its contract by those of the level and its modulus. Assumes nothing.
-use Rattle.oc.specs.Slopes.{elementWork}
+use Rattle.oc_slopes.specs.Slopes.{elementWork}
 use borrow.Author.Needs.{needs}
 use Rattle.oc_slopes.proofs.element_work.Statement.{statement}
 use Rattle.oc_slopes.proofs.element_work.Tie as tie

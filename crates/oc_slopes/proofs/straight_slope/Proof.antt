@@ -1,7 +1,7 @@
 -- `oc_slopes::straight_slope` meets its contract by that of `filter_back::back`. Assumes nothing.
 use mathlib.Core.Path.{ap, _∙_}
 use Rattle.filter_table.specs.Table.{backed}
-use Rattle.oc.specs.Slopes.{straightSlope}
+use Rattle.oc_slopes.specs.Slopes.{straightSlope}
 use borrow.Author.Needs.{needs}
 use Rattle.oc_slopes.proofs.straight_slope.Statement.{statement}
 use Rattle.oc_slopes.proofs.straight_slope.Tie as tie

@@ -7,8 +7,8 @@ use lib.ListN.{length, getD}
 use lib.Ieee.{nan, binary64, mul}
 use Rattle.lists.specs.Lists.{overwrite}
 use Rattle.lists.proofs.Laws.{overwrite-none}
-use Rattle.oc.specs.Slopes.{volumeByDensity}
-use Rattle.oc.proofs.Filled.{stored, filled}
+use Rattle.oc_slopes.specs.Slopes.{volumeByDensity}
+use Rattle.lists.proofs.Filled.{stored, filled}
 use Rattle.oc_slopes.proofs.volume_by_density.Statement.{statement}
 use Rattle.oc_slopes.proofs.volume_by_density.Tie as tie
 

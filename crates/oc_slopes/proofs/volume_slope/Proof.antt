@@ -1,6 +1,6 @@
 -- `oc_slopes::volume_slope` meets its contract by those of its two stages. Assumes nothing.
 use native.Mathlib.Omega.{arith}
-use Rattle.oc.proofs.Laws.{volume-is}
+use Rattle.oc_slopes.proofs.Laws.{volume-is}
 use borrow.Author.Needs.{needs}
 use Rattle.oc_slopes.proofs.volume_slope.Statement.{statement}
 use Rattle.oc_slopes.proofs.volume_slope.Tie as tie

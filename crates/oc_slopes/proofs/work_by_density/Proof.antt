@@ -8,8 +8,8 @@ use lib.ListN.{length, getD}
 use lib.Ieee.{nan}
 use Rattle.lists.specs.Lists.{overwrite, choose, zero64}
 use Rattle.lists.proofs.Laws.{overwrite-none}
-use Rattle.oc.specs.Slopes.{elementWork, workByDensity}
-use Rattle.oc.proofs.Filled.{stored, filled}
+use Rattle.oc_slopes.specs.Slopes.{elementWork, workByDensity}
+use Rattle.lists.proofs.Filled.{stored, filled}
 use Rattle.oc_slopes.proofs.work_by_density.Statement.{statement}
 use Rattle.oc_slopes.proofs.work_by_density.Tie as tie
 

@@ -1,6 +1,6 @@
 -- `oc_slopes::work_slope` meets its contract by those of its two stages. Assumes nothing.
 use native.Mathlib.Omega.{arith}
-use Rattle.oc.proofs.Laws.{work-is}
+use Rattle.oc_slopes.proofs.Laws.{work-is}
 use borrow.Author.Needs.{needs}
 use Rattle.oc_slopes.proofs.work_slope.Statement.{statement}
 use Rattle.oc_slopes.proofs.work_slope.Tie as tie

@@ -5,7 +5,8 @@ use lib.ListN.{length, drop}
 use lib.Seq.{length-take-le}
 use lib.Ieee.{Float}
 use denote.Ref.{now}
-use Rattle.oc.specs.Start.{targetOf, startDensity, startDesign}
+use Rattle.oc_goal.specs.Goal.{targetOf, startDensity}
+use Rattle.oc_start.specs.Start.{startDesign}
 use Rattle.run_plain.specs.Formulas.{sumOf}
 use borrow.Author.Needs.{needs}
 use Rattle.run_open_checks.proofs.begin.Statement.{statement}

@@ -2,9 +2,9 @@
 use denote.Ref.{now}
 use lib.Ieee.{Float}
 use Rattle.lists.specs.Lists.{choose}
-use Rattle.oc.specs.declared.seen.Sharpness.{Sharpness}
-use Rattle.oc.specs.declared.seen.Sharpness.the-variants.{Off, At}
-use Rattle.oc.specs.Seen.{seenDensity}
+use Rattle.oc_seen.specs.declared.Sharpness.{Sharpness}
+use Rattle.oc_seen.specs.declared.Sharpness.the-variants.{Off, At}
+use Rattle.oc_seen.specs.Seen.{seenDensity}
 use mathlib.Core.Path.{ap, _∙_}
 use borrow.Author.Needs.{needs}
 use Rattle.run_round.proofs.ask.Statement.{statement}

@@ -1,7 +1,7 @@
 -- `run_round::slopes` meets its contract: a branch on the test. Assumes nothing.
 use denote.Ref.{now}
-use Rattle.oc.specs.declared.seen.Sharpness.{Sharpness}
-use Rattle.oc.specs.Seen.{seenSlope}
+use Rattle.oc_seen.specs.declared.Sharpness.{Sharpness}
+use Rattle.oc_seen.specs.Seen.{seenSlope}
 use mathlib.Core.Path.{sym, ap, _∙_}
 use Rattle.lists.proofs.Laws.{choose-true, choose-false}
 use Rattle.run_round.proofs.Laws.{slopes-off}

@@ -8,7 +8,7 @@ use lib.ListN.{length, getD}
 use Rattle.lists.specs.Lists.{overwrite, choose, zero64}
 use Rattle.lists.proofs.Laws.{overwrite-none}
 use Rattle.ieee.specs.Basic.{one64}
-use Rattle.oc.proofs.Filled.{stored, filled}
+use Rattle.lists.proofs.Filled.{stored, filled}
 use Rattle.run_round.specs.Round.{plainSlopes}
 use Rattle.run_round.proofs.slopes_plain.Statement.{statement}
 use Rattle.run_round.proofs.slopes_plain.Tie as tie

@@ -1,7 +1,7 @@
 -- `update::fast` meets its contract by those of the two rules. Assumes nothing.
 use mathlib.Core.Path.{sym, ap, _∙_}
 use denote.Ref.{now}
-use Rattle.oc.specs.declared.kept.Rule.{Rule}
+use Rattle.oc_kept.specs.declared.Rule.{Rule}
 use Rattle.update_rates.specs.Rates.{given, firstRate, updated}
 use Rattle.update.proofs.Same.{first-same, updated-same}
 use borrow.Author.Needs.{needs}

@@ -5,7 +5,7 @@ use lib.Ieee.{Float, lt, binary64, mul}
 use denote.Ref.{now}
 use Rattle.lists.specs.Lists.{choose, zero64}
 use Rattle.ieee.specs.Basic.{one64}
-use Rattle.update_design.specs.Design.{tenThousand}
+use Rattle.update_value.specs.Value.{tenThousand}
 use Rattle.update_rates.specs.Rates.{Given, given, firstRate}
 use Rattle.update.proofs.Ends.{done, gain-is}
 use borrow.Author.Needs.{needs}

@@ -7,13 +7,13 @@ use native.Mathlib.Omega.{arith}
 use lib.ListN.{length}
 use lib.Ieee.{Float, lt}
 use denote.Ref.{now}
-use Rattle.oc.specs.Kept.{keptOf}
-use Rattle.update_rates.specs.Rates.{Given, Stand, given, trial, reckoned, halves, halved, whileTo}
+use Rattle.oc_kept.specs.Kept.{keptOf}
+use Rattle.update_rates.specs.Rates.{Given, Search, given, trial, reckoned, halves, halved, whileTo}
 use Rattle.update_rates.proofs.Loops.{wf-at, pass-left, halve-more, halve-none, halve-over}
 use Rattle.update_defined.proofs.halve.Statement.{statement}
 use Rattle.update_defined.proofs.halve.Tie as tie
 
-abbrev rest : Given → Float → Float → List Float → Float → ℕ → Stand
+abbrev rest : Given → Float → Float → List Float → Float → ℕ → Search
 rest g low high design kept passes = whileTo (halves g) (halved g) (200 - passes) (record { low = low; high = high; design = design; kept = kept; passes = passes })
 
 abbrev Inv-loop : tie.InvT-loop

@@ -6,12 +6,12 @@ use native.Mathlib.Omega.{arith}
 use lib.ListN.{length}
 use lib.Ieee.{Float, lt}
 use denote.Ref.{now}
-use Rattle.update_rates.specs.Rates.{Given, Stand, given, trial, reckoned, raises, raised, whileTo}
+use Rattle.update_rates.specs.Rates.{Given, Search, given, trial, reckoned, raises, raised, whileTo}
 use Rattle.update_rates.proofs.Loops.{wf-at, pass-left, raise-more, raise-same, raise-over}
 use Rattle.update_defined.proofs.raise.Statement.{statement}
 use Rattle.update_defined.proofs.raise.Tie as tie
 
-abbrev rest : Given → Float → Float → List Float → Float → ℕ → Stand
+abbrev rest : Given → Float → Float → List Float → Float → ℕ → Search
 rest g low high design kept passes = whileTo (raises g) (raised g) (200 - passes) (record { low = low; high = high; design = design; kept = kept; passes = passes })
 
 abbrev Inv-loop : tie.InvT-loop

@@ -7,7 +7,7 @@ use lib.ListN.{length, getD}
 use lib.Ieee.{nan}
 use Rattle.lists.specs.Lists.{overwrite}
 use Rattle.lists.proofs.Laws.{overwrite-none}
-use Rattle.oc.proofs.Filled.{stored, filled}
+use Rattle.lists.proofs.Filled.{stored, filled}
 use Rattle.update_design.proofs.Copied.{tabulate-getD}
 use Rattle.update_design.proofs.copy.Statement.{statement}
 use Rattle.update_design.proofs.copy.Tie as tie

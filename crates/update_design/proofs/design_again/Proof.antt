@@ -10,8 +10,9 @@ use lib.Ieee.{nan, eq, ne, binary64, fits}
 use Rattle.lists.specs.Lists.{overwrite, zero64}
 use Rattle.lists.proofs.Laws.{overwrite-none, both, tabulate-same}
 use Rattle.ieee.proofs.Basic.{holds}
-use Rattle.oc.proofs.Filled.{unwritten, stored, filled}
-use Rattle.update_design.specs.Design.{nextOf, designAt}
+use Rattle.lists.proofs.Filled.{unwritten, stored, filled}
+use Rattle.update_value.specs.Value.{nextOf}
+use Rattle.update_design.specs.Design.{designAt}
 use Rattle.update_design.proofs.Copied.{tabulate-getD}
 use Rattle.ieee_lanes.proofs.Same.{eq-same}
 use Rattle.update_design.proofs.design_again.Statement.{statement}

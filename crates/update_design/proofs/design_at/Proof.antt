@@ -8,8 +8,9 @@ use lib.ListN.{length, getD}
 use lib.Ieee.{nan}
 use Rattle.lists.specs.Lists.{overwrite}
 use Rattle.lists.proofs.Laws.{overwrite-none}
-use Rattle.oc.proofs.Filled.{stored, filled}
-use Rattle.update_design.specs.Design.{nextOf, designAt}
+use Rattle.lists.proofs.Filled.{stored, filled}
+use Rattle.update_value.specs.Value.{nextOf}
+use Rattle.update_design.specs.Design.{designAt}
 use Rattle.update_design.proofs.design_at.Statement.{statement}
 use Rattle.update_design.proofs.design_at.Tie as tie
 

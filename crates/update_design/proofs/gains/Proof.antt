@@ -7,8 +7,9 @@ use lib.ListN.{length, getD}
 use lib.Ieee.{nan}
 use Rattle.lists.specs.Lists.{overwrite}
 use Rattle.lists.proofs.Laws.{overwrite-none}
-use Rattle.oc.proofs.Filled.{stored, filled}
-use Rattle.update_design.specs.Design.{gainOf, gainsOf}
+use Rattle.lists.proofs.Filled.{stored, filled}
+use Rattle.update_value.specs.Value.{gainOf}
+use Rattle.update_design.specs.Design.{gainsOf}
 use Rattle.update_design.proofs.gains.Statement.{statement}
 use Rattle.update_design.proofs.gains.Tie as tie
 

@@ -10,15 +10,15 @@ use lib.Ieee.{Float, binary64, sub, lt}
 use denote.Ref.{now}
 use Rattle.lists.specs.Lists.{zero64}
 use Rattle.ieee.specs.Basic.{absOf}
-use Rattle.oc.specs.declared.kept.Rule.the-variants.{Sharpened}
-use Rattle.update_rates.specs.Rates.{Given, Stand, given, trial, reckoned, halves, halved, whileTo}
+use Rattle.oc_kept.specs.declared.Rule.the-variants.{Sharpened}
+use Rattle.update_rates.specs.Rates.{Given, Search, given, trial, reckoned, halves, halved, whileTo}
 use Rattle.update_rates.specs.Steps.{more as moreAt, off as offAt, standAt}
 use Rattle.update_rates.proofs.Loops.{pass-left}
 use Rattle.update_rates.proofs.Search.{search-more, search-none, search-over}
 use Rattle.update_sharpened.proofs.search.Statement.{statement}
 use Rattle.update_sharpened.proofs.search.Tie as tie
 
-abbrev rest : Given → Float → Float → Float → ℕ → Stand
+abbrev rest : Given → Float → Float → Float → ℕ → Search
 rest g low high rate passes = whileTo (halves g) (halved g) (200 - passes) (standAt g low high rate passes)
 
 abbrev Inv-loop : tie.InvT-loop

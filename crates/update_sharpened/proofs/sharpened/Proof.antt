@@ -5,8 +5,8 @@ use native.Mathlib.Omega.{arith}
 use lib.Ieee.{lt}
 use denote.Ref.{now}
 use Rattle.filter_table.proofs.Laws.{well-wf}
-use Rattle.oc.specs.declared.kept.Rule.the-variants.{Sharpened}
-use Rattle.oc.specs.Kept.{keptOf}
+use Rattle.oc_kept.specs.declared.Rule.the-variants.{Sharpened}
+use Rattle.oc_kept.specs.Kept.{keptOf}
 use Rattle.update_rates.specs.Rates.{Given, given, trial, reckoned}
 use Rattle.update_rates.specs.Steps.{more}
 use Rattle.update_rates.proofs.Loops.{wf-at}

@@ -6,8 +6,8 @@ use denote.Ref.{now}
 use Rattle.lists.specs.Lists.{zero64}
 use Rattle.lists.proofs.Laws.{both}
 use Rattle.ieee.proofs.Basic.{holds}
-use Rattle.oc.specs.declared.kept.Rule.the-variants.{Sharpened}
-use Rattle.oc.specs.Kept.{keptOf}
+use Rattle.oc_kept.specs.declared.Rule.the-variants.{Sharpened}
+use Rattle.oc_kept.specs.Kept.{keptOf}
 use Rattle.update_rates.specs.Rates.{Given, given, trial, reckoned}
 use Rattle.update_rates.proofs.Loops.{wf-at}
 use Rattle.ieee_lanes.proofs.Same.{eq-same}

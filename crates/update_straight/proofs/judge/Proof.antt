@@ -5,7 +5,7 @@ use mathlib.Core.Path.{sym, ap, _∙_}
 use lib.Ieee.{Float, lt, le}
 use Rattle.lists.specs.Lists.{zero64}
 use Rattle.lists.proofs.Laws.{both}
-use Rattle.oc.specs.Kept.{keptOf}
+use Rattle.oc_kept.specs.Kept.{keptOf}
 use Rattle.update_rates.specs.Rates.{trial, reckoned}
 use Rattle.update_rates.specs.Steps.{more, off}
 use Rattle.update_straight.specs.Steps.{infinity}

@@ -5,8 +5,8 @@ use native.Mathlib.Omega.{arith}
 use lib.Ieee.{binary64, add, lt, le}
 use denote.Ref.{now}
 use Rattle.lists.proofs.Laws.{both}
-use Rattle.oc.specs.declared.kept.Rule.the-variants.{Straight}
-use Rattle.oc.specs.Kept.{keptOf}
+use Rattle.oc_kept.specs.declared.Rule.the-variants.{Straight}
+use Rattle.oc_kept.specs.Kept.{keptOf}
 use Rattle.update_rates.specs.Rates.{given, trial, reckoned}
 use Rattle.update_straight.specs.Steps.{infinity}
 use Rattle.update_rates.proofs.Search.{searched}

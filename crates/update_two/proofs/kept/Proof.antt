@@ -7,7 +7,7 @@ use native.Mathlib.Omega.{arith}
 use denote.Ref.{now}
 use Rattle.lists.specs.Lists.{sumTo}
 use Rattle.lists.proofs.Laws.{sumTo-none}
-use Rattle.oc.specs.Project.{belowOf, wholeOf}
+use Rattle.oc_project.specs.Project.{belowOf, wholeOf}
 use Rattle.update_two.specs.Part.{part}
 use Rattle.update_two.proofs.Laws.{part-at, parts-are}
 use Rattle.update_two.proofs.kept.Statement.{statement}

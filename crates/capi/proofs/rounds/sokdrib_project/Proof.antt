@@ -1,6 +1,6 @@
 -- `sokdrib_project` meets its contract by those of `at_steepness` and `project`. Assumes nothing.
 use mathlib.Core.Path.{sym, ap, _∙_}
-use Rattle.oc.specs.Project.{belowOf, wholeOf}
+use Rattle.oc_project.specs.Project.{belowOf, wholeOf}
 use borrow.Author.Needs.{needs}
 use Rattle.capi.proofs.rounds.sokdrib_project.Statement.{statement}
 use Rattle.capi.proofs.rounds.sokdrib_project.Tie as tie

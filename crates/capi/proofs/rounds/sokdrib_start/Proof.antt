@@ -1,4 +1,4 @@
--- `sokdrib_start` meets its contract: what the lengths tell, and the parts of `oc::start` over front parts of the lists. Assumes nothing.
+-- `sokdrib_start` meets its contract: what the lengths tell, and the parts of `oc_start` and `oc_goal` over front parts of the lists. Assumes nothing.
 use lib.ListN.{length}
 use denote.Ref.{now}
 use mathlib.Core.Path.{refl, sym, _∙_}

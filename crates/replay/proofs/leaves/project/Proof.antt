@@ -1,7 +1,7 @@
 -- `leaves::project` gives `project` what `at_steepness` worked out. Assumes nothing.
 use mathlib.Core.Path.{sym, ap, _∙_}
 use borrow.Author.Needs.{needs}
-use Rattle.oc.specs.Project.{belowOf, wholeOf}
+use Rattle.oc_project.specs.Project.{belowOf, wholeOf}
 use Rattle.replay.proofs.leaves.project.Statement.{statement}
 use Rattle.replay.proofs.leaves.project.Tie as tie
 

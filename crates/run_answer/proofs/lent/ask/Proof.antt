@@ -6,8 +6,8 @@ use native.Mathlib.Omega.{arith}
 use lib.ListN.{take}
 use denote.Ref.{now}
 use Rattle.lists.specs.Lists.{choose}
-use Rattle.oc.specs.declared.seen.Sharpness.the-variants.{Off, At}
-use Rattle.oc.specs.Seen.{seenDensity}
+use Rattle.oc_seen.specs.declared.Sharpness.the-variants.{Off, At}
+use Rattle.oc_seen.specs.Seen.{seenDensity}
 use Rattle.run_plain.specs.Formulas.{sharpness}
 use Rattle.run_plain.specs.Calls.{steepAt}
 use Rattle.run_answer.proofs.Prefix.{front, laid, scratched, take-one}

@@ -8,7 +8,7 @@ use lib.ListN.{length, getD}
 use lib.Ieee.{nan, binary64, add, mul}
 use Rattle.lists.specs.Lists.{sumTo}
 use Rattle.lists.proofs.Laws.{sumTo-none, sumTo-more}
-use Rattle.update_design.specs.Design.{nextOf}
+use Rattle.update_value.specs.Value.{nextOf}
 use Rattle.update_straight.proofs.Reckoned.{dot-is}
 use Rattle.update_straight.proofs.certify.kept_at.Statement.{statement}
 use Rattle.update_straight.proofs.certify.kept_at.Tie as tie

@@ -5,19 +5,21 @@ use Rattle.update_straight.proofs.guess.guess.Statement.{statement}
 use Rattle.update_straight.proofs.guess.guess.Tie as tie
 
 abbrev Inv-loop : tie.InvT-loop
-Inv-loop x reach dv m target tolerance solid first below₀ above₀ passes₀ below above passes = passes ≤ 200
+Inv-loop x reach dv m target tolerance solid first w rate off below₀ above₀ passes₀ below above passes =
+    passes ≤ 200
 
 abbrev μ-loop : tie.MeasureT-loop
-μ-loop x reach dv m target tolerance solid first below₀ above₀ passes₀ below above passes = 200 - passes
+μ-loop x reach dv m target tolerance solid first w rate off below₀ above₀ passes₀ below above passes =
+    200 - passes
+
+begins-requires : tie.Need-begins-requires Inv-loop μ-loop
+begins-requires c κs = search needs
+
+met-requires : tie.Need-met-requires Inv-loop μ-loop
+met-requires c κs = search needs
 
 loop-holds : tie.Need-loop-holds Inv-loop μ-loop
 loop-holds c = search needs
-
-sqrt-requires : tie.Need-sqrt-requires Inv-loop μ-loop
-sqrt-requires c κs = search needs
-
-roughly-requires : tie.Need-roughly-requires Inv-loop μ-loop
-roughly-requires c κs = search needs
 
 abs-requires : tie.Need-abs-requires Inv-loop μ-loop
 abs-requires c κs = search needs
@@ -49,9 +51,9 @@ guess-spec =
     (tie.spec
     Inv-loop
     μ-loop
+    begins-requires
+    met-requires
     loop-holds
-    sqrt-requires
-    roughly-requires
     abs-requires
     returns
     either-requires

@@ -12,22 +12,16 @@ abbrev μ-loop : tie.MeasureT-loop
 μ-loop x reach dv m w p₀ q₀ r₀ s₀ i₀ p q r s i = length x - i
 
 abbrev Inv-loop2 : tie.InvT-loop2
-Inv-loop2 x reach dv m w p₀ q r s i₀ p i = i ≤ length x
+Inv-loop2 x reach dv m w p₀ q r₀ s i₀ p r i = i ≤ length x
 
 abbrev μ-loop2 : tie.MeasureT-loop2
-μ-loop2 x reach dv m w p₀ q r s i₀ p i = length x - i
+μ-loop2 x reach dv m w p₀ q r₀ s i₀ p r i = length x - i
 
 loop-holds : tie.Need-loop-holds Inv-loop μ-loop Inv-loop2 μ-loop2
 loop-holds c = search needs
 
 add-loop : tie.Need-add-loop Inv-loop μ-loop Inv-loop2 μ-loop2
 add-loop c = search needs
-
-mul-p : tie.Need-mul-p Inv-loop μ-loop Inv-loop2 μ-loop2
-mul-p c = search needs
-
-shared-slice-read-p : tie.Need-shared-slice-read-p Inv-loop μ-loop Inv-loop2 μ-loop2
-shared-slice-read-p c = search needs
 
 mul-rough : tie.Need-mul-rough Inv-loop μ-loop Inv-loop2 μ-loop2
 mul-rough c = search needs
@@ -43,15 +37,6 @@ shared-slice-read-rough-2 c = search needs
 
 rough-requires : tie.Need-rough-requires Inv-loop μ-loop Inv-loop2 μ-loop2
 rough-requires c κs = search needs
-
-add-q : tie.Need-add-q Inv-loop μ-loop Inv-loop2 μ-loop2
-add-q c = search needs
-
-mul-q : tie.Need-mul-q Inv-loop μ-loop Inv-loop2 μ-loop2
-mul-q c = search needs
-
-shared-slice-read-q : tie.Need-shared-slice-read-q Inv-loop μ-loop Inv-loop2 μ-loop2
-shared-slice-read-q c = search needs
 
 add-rough : tie.Need-add-rough Inv-loop μ-loop Inv-loop2 μ-loop2
 add-rough c = search needs
@@ -74,8 +59,20 @@ shared-slice-read-rough-4 c = search needs
 rough-requires-2 : tie.Need-rough-requires-2 Inv-loop μ-loop Inv-loop2 μ-loop2
 rough-requires-2 c κs = search needs
 
-add-r : tie.Need-add-r Inv-loop μ-loop Inv-loop2 μ-loop2
-add-r c = search needs
+mul-p : tie.Need-mul-p Inv-loop μ-loop Inv-loop2 μ-loop2
+mul-p c = search needs
+
+shared-slice-read-p : tie.Need-shared-slice-read-p Inv-loop μ-loop Inv-loop2 μ-loop2
+shared-slice-read-p c = search needs
+
+add-q : tie.Need-add-q Inv-loop μ-loop Inv-loop2 μ-loop2
+add-q c = search needs
+
+mul-q : tie.Need-mul-q Inv-loop μ-loop Inv-loop2 μ-loop2
+mul-q c = search needs
+
+shared-slice-read-q : tie.Need-shared-slice-read-q Inv-loop μ-loop Inv-loop2 μ-loop2
+shared-slice-read-q c = search needs
 
 mul-r : tie.Need-mul-r Inv-loop μ-loop Inv-loop2 μ-loop2
 mul-r c = search needs
@@ -83,26 +80,14 @@ mul-r c = search needs
 shared-slice-read-r : tie.Need-shared-slice-read-r Inv-loop μ-loop Inv-loop2 μ-loop2
 shared-slice-read-r c = search needs
 
-add-rough-3 : tie.Need-add-rough-3 Inv-loop μ-loop Inv-loop2 μ-loop2
-add-rough-3 c = search needs
+mul-moves : tie.Need-mul-moves Inv-loop μ-loop Inv-loop2 μ-loop2
+mul-moves c = search needs
 
-mul-rough-5 : tie.Need-mul-rough-5 Inv-loop μ-loop Inv-loop2 μ-loop2
-mul-rough-5 c = search needs
+shared-slice-read-moves : tie.Need-shared-slice-read-moves Inv-loop μ-loop Inv-loop2 μ-loop2
+shared-slice-read-moves c = search needs
 
-shared-slice-read-rough-5 : tie.Need-shared-slice-read-rough-5 Inv-loop μ-loop Inv-loop2 μ-loop2
-shared-slice-read-rough-5 c = search needs
-
-add-rough-4 : tie.Need-add-rough-4 Inv-loop μ-loop Inv-loop2 μ-loop2
-add-rough-4 c = search needs
-
-mul-rough-6 : tie.Need-mul-rough-6 Inv-loop μ-loop Inv-loop2 μ-loop2
-mul-rough-6 c = search needs
-
-shared-slice-read-rough-6 : tie.Need-shared-slice-read-rough-6 Inv-loop μ-loop Inv-loop2 μ-loop2
-shared-slice-read-rough-6 c = search needs
-
-rough-requires-3 : tie.Need-rough-requires-3 Inv-loop μ-loop Inv-loop2 μ-loop2
-rough-requires-3 c κs = search needs
+moves-requires : tie.Need-moves-requires Inv-loop μ-loop Inv-loop2 μ-loop2
+moves-requires c κs = search needs
 
 add-s : tie.Need-add-s Inv-loop μ-loop Inv-loop2 μ-loop2
 add-s c = search needs
@@ -113,26 +98,17 @@ mul-s c = search needs
 shared-slice-read-s : tie.Need-shared-slice-read-s Inv-loop μ-loop Inv-loop2 μ-loop2
 shared-slice-read-s c = search needs
 
-add-rough-5 : tie.Need-add-rough-5 Inv-loop μ-loop Inv-loop2 μ-loop2
-add-rough-5 c = search needs
+add-moves : tie.Need-add-moves Inv-loop μ-loop Inv-loop2 μ-loop2
+add-moves c = search needs
 
-mul-rough-7 : tie.Need-mul-rough-7 Inv-loop μ-loop Inv-loop2 μ-loop2
-mul-rough-7 c = search needs
+mul-moves-2 : tie.Need-mul-moves-2 Inv-loop μ-loop Inv-loop2 μ-loop2
+mul-moves-2 c = search needs
 
-shared-slice-read-rough-7 : tie.Need-shared-slice-read-rough-7 Inv-loop μ-loop Inv-loop2 μ-loop2
-shared-slice-read-rough-7 c = search needs
+shared-slice-read-moves-2 : tie.Need-shared-slice-read-moves-2 Inv-loop μ-loop Inv-loop2 μ-loop2
+shared-slice-read-moves-2 c = search needs
 
-add-rough-6 : tie.Need-add-rough-6 Inv-loop μ-loop Inv-loop2 μ-loop2
-add-rough-6 c = search needs
-
-mul-rough-8 : tie.Need-mul-rough-8 Inv-loop μ-loop Inv-loop2 μ-loop2
-mul-rough-8 c = search needs
-
-shared-slice-read-rough-8 : tie.Need-shared-slice-read-rough-8 Inv-loop μ-loop Inv-loop2 μ-loop2
-shared-slice-read-rough-8 c = search needs
-
-rough-requires-4 : tie.Need-rough-requires-4 Inv-loop μ-loop Inv-loop2 μ-loop2
-rough-requires-4 c κs = search needs
+moves-requires-2 : tie.Need-moves-requires-2 Inv-loop μ-loop Inv-loop2 μ-loop2
+moves-requires-2 c κs = search needs
 
 add-i : tie.Need-add-i Inv-loop μ-loop Inv-loop2 μ-loop2
 add-i c = search needs
@@ -146,26 +122,41 @@ loop-again c = search needs
 loop2-holds : tie.Need-loop2-holds Inv-loop μ-loop Inv-loop2 μ-loop2
 loop2-holds c = search needs
 
+mul-rough-5 : tie.Need-mul-rough-5 Inv-loop μ-loop Inv-loop2 μ-loop2
+mul-rough-5 c = search needs
+
+shared-slice-read-rough-5 : tie.Need-shared-slice-read-rough-5 Inv-loop μ-loop Inv-loop2 μ-loop2
+shared-slice-read-rough-5 c = search needs
+
+mul-rough-6 : tie.Need-mul-rough-6 Inv-loop μ-loop Inv-loop2 μ-loop2
+mul-rough-6 c = search needs
+
+shared-slice-read-rough-6 : tie.Need-shared-slice-read-rough-6 Inv-loop μ-loop Inv-loop2 μ-loop2
+shared-slice-read-rough-6 c = search needs
+
+rough-requires-3 : tie.Need-rough-requires-3 Inv-loop μ-loop Inv-loop2 μ-loop2
+rough-requires-3 c κs = search needs
+
 mul-p-2 : tie.Need-mul-p-2 Inv-loop μ-loop Inv-loop2 μ-loop2
 mul-p-2 c = search needs
 
 shared-slice-read-p-2 : tie.Need-shared-slice-read-p-2 Inv-loop μ-loop Inv-loop2 μ-loop2
 shared-slice-read-p-2 c = search needs
 
-mul-rough-9 : tie.Need-mul-rough-9 Inv-loop μ-loop Inv-loop2 μ-loop2
-mul-rough-9 c = search needs
+mul-r-2 : tie.Need-mul-r-2 Inv-loop μ-loop Inv-loop2 μ-loop2
+mul-r-2 c = search needs
 
-shared-slice-read-rough-9 : tie.Need-shared-slice-read-rough-9 Inv-loop μ-loop Inv-loop2 μ-loop2
-shared-slice-read-rough-9 c = search needs
+shared-slice-read-r-2 : tie.Need-shared-slice-read-r-2 Inv-loop μ-loop Inv-loop2 μ-loop2
+shared-slice-read-r-2 c = search needs
 
-mul-rough-10 : tie.Need-mul-rough-10 Inv-loop μ-loop Inv-loop2 μ-loop2
-mul-rough-10 c = search needs
+mul-moves-3 : tie.Need-mul-moves-3 Inv-loop μ-loop Inv-loop2 μ-loop2
+mul-moves-3 c = search needs
 
-shared-slice-read-rough-10 : tie.Need-shared-slice-read-rough-10 Inv-loop μ-loop Inv-loop2 μ-loop2
-shared-slice-read-rough-10 c = search needs
+shared-slice-read-moves-3 : tie.Need-shared-slice-read-moves-3 Inv-loop μ-loop Inv-loop2 μ-loop2
+shared-slice-read-moves-3 c = search needs
 
-rough-requires-5 : tie.Need-rough-requires-5 Inv-loop μ-loop Inv-loop2 μ-loop2
-rough-requires-5 c κs = search needs
+moves-requires-3 : tie.Need-moves-requires-3 Inv-loop μ-loop Inv-loop2 μ-loop2
+moves-requires-3 c κs = search needs
 
 add-i-2 : tie.Need-add-i-2 Inv-loop μ-loop Inv-loop2 μ-loop2
 add-i-2 c = search needs
@@ -189,16 +180,11 @@ roughly-spec =
     μ-loop2
     loop-holds
     add-loop
-    mul-p
-    shared-slice-read-p
     mul-rough
     shared-slice-read-rough
     mul-rough-2
     shared-slice-read-rough-2
     rough-requires
-    add-q
-    mul-q
-    shared-slice-read-q
     add-rough
     mul-rough-3
     shared-slice-read-rough-3
@@ -206,37 +192,39 @@ roughly-spec =
     mul-rough-4
     shared-slice-read-rough-4
     rough-requires-2
-    add-r
+    mul-p
+    shared-slice-read-p
+    add-q
+    mul-q
+    shared-slice-read-q
     mul-r
     shared-slice-read-r
-    add-rough-3
-    mul-rough-5
-    shared-slice-read-rough-5
-    add-rough-4
-    mul-rough-6
-    shared-slice-read-rough-6
-    rough-requires-3
+    mul-moves
+    shared-slice-read-moves
+    moves-requires
     add-s
     mul-s
     shared-slice-read-s
-    add-rough-5
-    mul-rough-7
-    shared-slice-read-rough-7
-    add-rough-6
-    mul-rough-8
-    shared-slice-read-rough-8
-    rough-requires-4
+    add-moves
+    mul-moves-2
+    shared-slice-read-moves-2
+    moves-requires-2
     add-i
     loop-less
     loop-again
     loop2-holds
+    mul-rough-5
+    shared-slice-read-rough-5
+    mul-rough-6
+    shared-slice-read-rough-6
+    rough-requires-3
     mul-p-2
     shared-slice-read-p-2
-    mul-rough-9
-    shared-slice-read-rough-9
-    mul-rough-10
-    shared-slice-read-rough-10
-    rough-requires-5
+    mul-r-2
+    shared-slice-read-r-2
+    mul-moves-3
+    shared-slice-read-moves-3
+    moves-requires-3
     add-i-2
     loop2-less
     loop2-again

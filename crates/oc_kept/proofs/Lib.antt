@@ -1,0 +1,2 @@
+-- `Laws` has the definition by what each call gives.
+pub mod Laws

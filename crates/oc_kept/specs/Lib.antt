@@ -1,0 +1,2 @@
+-- `Kept` has the volume that a design keeps.
+pub mod Kept

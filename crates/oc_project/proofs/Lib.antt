@@ -1,0 +1,2 @@
+-- `Cases` has 01's proved case.
+pub mod Cases

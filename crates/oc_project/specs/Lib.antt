@@ -1,0 +1,2 @@
+-- `Project` has the sharpening.
+pub mod Project

@@ -1,0 +1,2 @@
+-- `Record` has what a round record says.
+pub mod Record

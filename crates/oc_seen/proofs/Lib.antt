@@ -1,0 +1,2 @@
+-- `Laws` has the definitions by what each call gives.
+pub mod Laws

@@ -1,0 +1,2 @@
+-- `Seen` has what a solve is given.
+pub mod Seen

@@ -1,0 +1,2 @@
+-- `Slopes` has how work and volume go with the design.
+pub mod Slopes

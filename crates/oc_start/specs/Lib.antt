@@ -1,0 +1,2 @@
+-- `Start` has the volumes held and free, and the first design.
+pub mod Start
