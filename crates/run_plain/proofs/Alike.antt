@@ -18,7 +18,7 @@ use Rattle.run_plain.specs.Lent.{Sizes, answerShort}
 use Rattle.run_plain.specs.Formulas.{Steep, Case, updateAt, recordAt, notFinite, idle, small}
 use Rattle.run_plain.specs.Opening.{elements, nearOf, caseOf}
 use Rattle.run_plain.specs.Plain.{Part, nothing, solid, round, Row, inOrder, Checks, stageOf, sharpest, steadyRun, Run, Step, ended, askedOf, updated, stopsOf, checksOf}
-use Rattle.run_plain.specs.Calls.{endedOf, Lists, Arguments, Result, sizesOf, steepAt, counts, soundIn, sound, partIn, partOf, caseFrom, checksAt, designIn, densityIn, updateIn, recordIn, steadyAt, stopsAt, writtenLists, lend, giveBack, Call, outOf, fed}
+use Rattle.run_plain.specs.Calls.{endedOf, Lists, Arguments, Result, sizesOf, steepAt, inRange, soundIn, sound, partIn, partOf, caseFrom, checksAt, designIn, densityIn, updateIn, recordIn, steadyAt, stopsAt, writtenLists, lend, giveBack, Call, outOf, fed}
 use Rattle.run_plain.proofs.Parts.{take-part, overlay-part, Enough, enough}
 use Rattle.run_plain.proofs.Formulas.{Ready}
 use Rattle.run_plain.proofs.Counts.{stage-most, steep-at, Climbs, Running, steady-on, rowOf}
@@ -60,9 +60,9 @@ holds : (a b : Bool) → a ≡ true → b ≡ true → (a && b) ≡ true
 holds true b p q = q
 holds false b p q = p
 
-counts-are : (s : State) (f : Bool) (b : Steep) (rows : List Row) → s .setting .elements ≤ 65535 → Running f b rows s → counts s ≡ true
-unfolding counts
-counts-are s f b rows h r =
+in-range : (s : State) (f : Bool) (b : Steep) (rows : List Row) → s .setting .elements ≤ 65535 → Running f b rows s → inRange s ≡ true
+unfolding inRange
+in-range s f b rows h r =
     let m : stageOf b ≤ 4 = stage-most b in
     let e : s .progress .stage ≡ stageOf b = r .stage in
     holds _ _ (holds _ _ (holds _ _ (le-leb (s .progress .stage) 4 (omega arith)) (lt-ltb (s .progress .«at_stage») 20 (r .few))) (lt-ltb (s .progress .steady) 5 (r .calm))) (le-leb (s .setting .elements) 65535 h)
@@ -73,10 +73,10 @@ unfolding sound
 sound-is nothing r s h d m f = ap (λ (x : Phase). soundIn x s) f
 sound-is solid r s h d m f =
     let z : s .progress .rounds ≡ 0 = d ∙ ap length (f .1) in
-    ap (λ (x : Phase). soundIn x s) (f .0) ∙ holds _ _ (counts-are s _ _ _ h (f .2)) (eq-eqb _ _ z)
+    ap (λ (x : Phase). soundIn x s) (f .0) ∙ holds _ _ (in-range s _ _ _ h (f .2)) (eq-eqb _ _ z)
 sound-is (round n) r s h d m f =
     let z : s .progress .rounds < s .setting .«max_iterations» = omega (arith, f .2) in
-    ap (λ (x : Phase). soundIn x s) (f .0) ∙ holds _ _ (counts-are s _ _ _ h (f .3)) (lt-ltb _ _ z)
+    ap (λ (x : Phase). soundIn x s) (f .0) ∙ holds _ _ (in-range s _ _ _ h (f .3)) (lt-ltb _ _ z)
 
 part-in : (p : Part) (r : Run) (s : State) → s .progress .rounds ≡ length (r .rows) → Fits p r s → partIn (s .phase) s ≡ p
 part-in nothing r s d f = ap (λ (x : Phase). partIn x s) f
@@ -229,7 +229,7 @@ solved r s a l d q e =
 
 -- the stops' tests are the same
 pub stops-same : (l₀ : Lists) (r : Run) (s : State) (l : Lists) (c : Call) → Sim l₀ r s l → Reads r s (lend (c .lent) l) → Solved r s (c .arguments) (lend (c .lent) l) → Running (r .given .goal .sharpen) (r .steep) (r .rows) s
-    → stopsAt s (c .arguments) (recordIn s (c .arguments) (lend (c .lent) l)) ≡ stopsOf (updated r (c .arguments .energies)) (fed l₀ c)
+    → stopsAt s (c .arguments .heard) (recordIn s (c .arguments) (lend (c .lent) l)) ≡ stopsOf (updated r (c .arguments .energies)) (fed l₀ c)
 unfolding stopsAt
 stops-same l₀ r s l c m d o g =
     let e = recordIn s (c .arguments) (lend (c .lent) l) in

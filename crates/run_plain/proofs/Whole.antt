@@ -26,6 +26,7 @@ use Rattle.run_plain.specs.declared.Course.the-variants.{Onward, Ends}
 use Rattle.run_plain.specs.declared.Entry.{Entry}
 use Rattle.run_plain.specs.declared.Entry.the-variants.{Kept as KeptOut, Zeroed, Shut, Opens}
 use Rattle.run_plain.specs.declared.State.{State}
+use Rattle.run_plain.specs.declared.Heard.{Heard}
 use Rattle.run_plain.specs.Lent.{Sizes}
 use Rattle.run_plain.specs.Formulas.{Steep, s1, ones, see, recordAt}
 use Rattle.run_plain.specs.Opening.{Opening, elements, startsOf, nearOf, coefOf, caseOf, startOf, entryOf}
@@ -193,7 +194,7 @@ is-onward l₀ r s l k a m h d q g lt hl hr =
           (nn .whole) (nn .long) (refl, refl, omega arith, w′) (climbs-on f (r .steep) b′ e′ (r .rows) (m .climbs) (moved f (r .steep) (rowOf (r .steep) e′ ∷ r .rows)));
     }
 
-goes-at : (s : State) (a : Arguments) (e : Iteration) → firstStop (stopsAt s a e) ≡ Onward → ((sharpest (s .setting .sharpen) (steepAt (s .progress .stage)) && leb 5 (steadyAt s (e .compliance))) ≡ false) × (leb (s .setting .«max_iterations») (suc (s .progress .rounds)) ≡ false)
+goes-at : (s : State) (a : Heard) (e : Iteration) → firstStop (stopsAt s a e) ≡ Onward → ((sharpest (s .setting .sharpen) (steepAt (s .progress .stage)) && leb 5 (steadyAt s (e .compliance))) ≡ false) × (leb (s .setting .«max_iterations») (suc (s .progress .rounds)) ≡ false)
 unfolding stopsAt
 goes-at s a e h = let g = goes-on (stopsAt s a e) h in (g .levelled, g .limit)
 
@@ -213,13 +214,13 @@ is-solved l₀ r s l c n m h p = go (firstStop (stopsOf (updated r (c .arguments
     lt : s .progress .rounds < s .setting .«max_iterations»
     lt = let x : s .progress .rounds ≡ length (r .rows) = m .rounds in let y : s .setting .«max_iterations» ≡ r .given .goal .«max_iterations» = m .limit in let z : length (r .rows) < r .given .goal .«max_iterations» = f .2 in omega arith
 
-    t : stopsAt s (c .arguments) (recordIn s (c .arguments) (lend (c .lent) l)) ≡ stopsOf (updated r (c .arguments .energies)) (fed l₀ c)
+    t : stopsAt s (c .arguments .heard) (recordIn s (c .arguments) (lend (c .lent) l)) ≡ stopsOf (updated r (c .arguments .energies)) (fed l₀ c)
     t = stops-same l₀ r s l c m d (solved r s (c .arguments) (lend (c .lent) l) d q (m .rounds)) (f .3)
 
     go : (v : Course) → firstStop (stopsOf (updated r (c .arguments .energies)) (fed l₀ c)) ≡ v → Alike l₀ l (answerBy s (c .arguments) (lend (c .lent) l) Solves) (after r (fed l₀ c) Solves)
     go (Ends why) e = rw (t, e) (is-stopped l₀ r s l (c .lent) (c .arguments) why m h d q lt)
     go Onward e =
-        let g = goes-at s (c .arguments) (recordIn s (c .arguments) (lend (c .lent) l)) (ap firstStop t ∙ e) in
+        let g = goes-at s (c .arguments .heard) (recordIn s (c .arguments) (lend (c .lent) l)) (ap firstStop t ∙ e) in
         rw (t, e) (is-onward l₀ r s l (c .lent) (c .arguments) m h d q (f .3) lt (g .0) (g .1))
 
 -- ---- an answer

@@ -130,13 +130,13 @@ steepAt (suc (suc (suc zero))) = s8
 steepAt (suc (suc (suc (suc n)))) = s16
 
 -- 20: "the test of its numbers that docs/ fixes and every state of a run passes". A state with no run open has nothing to test
-unfoldable pub counts : State → Bool
-counts s = leb (s .progress .stage) 4 && ltb (s .progress .«at_stage») 20 && ltb (s .progress .steady) 5 && leb (s .setting .elements) 65535
+unfoldable pub inRange : State → Bool
+inRange s = leb (s .progress .stage) 4 && ltb (s .progress .«at_stage») 20 && ltb (s .progress .steady) 5 && leb (s .setting .elements) 65535
 
 abbrev pub soundIn : Phase → State → Bool
 soundIn Idle s = true
-soundIn Solid s = counts s && eqb (s .progress .rounds) 0
-soundIn Round s = counts s && ltb (s .progress .rounds) (s .setting .«max_iterations»)
+soundIn Solid s = inRange s && eqb (s .progress .rounds) 0
+soundIn Round s = inRange s && ltb (s .progress .rounds) (s .setting .«max_iterations»)
 
 unfoldable pub sound : State → Bool
 sound s = soundIn (s .phase) s
@@ -211,15 +211,15 @@ levelAt s w = choose (ltb 0 (s .progress .rounds)) (level (s .compliances .last)
 unfoldable pub steadyAt : State → Float → ℕ
 steadyAt s w = choose (sharpest (s .setting .sharpen) (steepAt (s .progress .stage)) && levelAt s w) (suc (s .progress .steady)) 0
 
-unfoldable pub stopsAt : State → Arguments → Iteration → Stops
-stopsAt s a r =
+unfoldable pub stopsAt : State → Heard → Iteration → Stops
+stopsAt s h r =
     record {
       sharp = sharpest (s .setting .sharpen) (steepAt (s .progress .stage));
       small = small (r .change);
       levelled = leb 5 (steadyAt s (r .compliance));
       limit = leb (s .setting .«max_iterations») (suc (s .progress .rounds));
-      budget = leb (a .heard .allowed) (a .heard .elapsed);
-      flag = a .heard .flag;
+      budget = leb (h .allowed) (h .elapsed);
+      flag = h .flag;
     }
 
 -- whether the steepness moves on
@@ -268,7 +268,7 @@ answerBy s a l (Kept n) = keeps s n l
 answerBy s a l (Over n) = keeps (endedOf s) n l
 answerBy s a l Halts = record { state = endedOf s; reply = Stop Stopped; lists = l }
 answerBy s a l Begins = firstAsked s a l
-answerBy s a l Solves = solvedBy s a l (firstStop (stopsAt s a (recordIn s a l)))
+answerBy s a l Solves = solvedBy s a l (firstStop (stopsAt s (a .heard) (recordIn s a l)))
 
 -- the contract of `answer`; `work` has the lengths of the working lists
 unfoldable pub answerOf : State → Arguments → List ℕ → Lists → Result
