@@ -2,7 +2,8 @@
 """The places of a function's proof, and the `.before` that lead from one to another. A change of the source moves every count; this counts again.
 
   places.py CRATE FUNCTION            lists the places, each after the one before it, with the fact that it adds, and where each need stands
-  places.py CRATE FUNCTION.. --fix    counts the `.before` again in the functions' proof files: `c .before .. .FACT` goes to the nearest place with FACT
+  places.py CRATE FUNCTION.. --fix    counts the `.before` again in the functions' proof files: `c .before .. .FACT` goes to the nearest place with FACT,
+                                      `x : tie.PLACE = c .before ..` and a function `f : tie.FROM → tie.PLACE` to PLACE
 
 `rt goals CRATE` writes what this reads. FUNCTION is written as the folder below proofs/, as counts/course.
 """
@@ -51,13 +52,24 @@ def fix(path, places):
         print('%s: no %s from %s' % (path, m.group(2), place))
         return m.group(0)
 
+    def reach(place, target, old):
+        for n, at in enumerate(chain(before, place)):
+            if at == target:
+                return 'c' + ' .before' * n
+        print('%s: no %s from %s' % (path, target, place))
+        return old
+
+    ends = dict(re.findall(r'(?m)^(?:abbrev )?([\w-]+) : tie\.[A-Z][\w-]* → tie\.([A-Z][\w-]*)$', text))
     out, place = [], None
     for line in text.split('\n'):
         m = re.match(r'([\w-]+) c\b', line)
         if re.match(r'\S', line):
             place = start.get(m.group(1)) if m else None
-        if place:
-            line = re.sub(r'(?<![\w.-])c((?: \.before)*) \.(?!before)([\w-]+)', lambda k: count(place, k), line)
+        if place and m and m.group(1) in ends:
+            line = m.group(1) + ' c = ' + reach(place, ends[m.group(1)], line.split(' = ')[1])
+        elif place:
+            line = re.sub(r'(: tie\.([A-Z][\w-]*) = )(c(?: \.before)*)(?= in\b)', lambda k: k.group(1) + reach(place, k.group(2), k.group(3)), line)
+            line = re.sub(r'(?<![\w.-])c((?: \.before)*) \.(?!before)([\w-]+)', lambda k: k.group(0) if line[:k.start()].split()[-1].strip('(') in ends else count(place, k), line)
         out.append(line)
     if '\n'.join(out) != text:
         path.write_text('\n'.join(out))
