@@ -231,7 +231,7 @@ unfolding code.routine tablesOf
     entered 𝓤 H (tripleOf 𝓤 H (𝓖 .A) self′.signature (self′.spec 𝓤 H (𝓖 .A) (𝓜 .mem) (𝓡 .run)))
     (tables 𝓤 H 𝓜 𝓡 code.env .C) (tables 𝓤 H 𝓜 𝓡 code.env .Λ) #self code.function (code.unfolded 𝓤 H 𝓜 𝓡)
     (self-meets 𝓤 H (𝓖 .A) (givenOf 𝓤 H 𝓜 𝓖) (𝓜 .mem) (𝓡 .run) (tablesOf 𝓤 H 𝓜 (tables 𝓤 H 𝓜 𝓡 code.env))''']+[
-f'    (cited 𝓤 H ({N} 𝓤 H (𝓖 .A) (𝓜 .mem) (𝓡 .run)) 𝓜 𝓡 code.env #{a} {a}-def.routine code.calls-{s.c.get("callee_crate",s.crate)}·{dash(f)} ({a}-thm.met 𝓤 H 𝓜 𝓖 𝓡))' for (a,N),f in zip(callees,s.names)]
+f'    (cited 𝓤 H ({N} 𝓤 H (𝓖 .A) (𝓜 .mem) (𝓡 .run)) 𝓜 𝓡 code.env #{a} {a}-def.routine code.calls-{dash(s.c.get("callee_crate",s.crate))}·{dash(f)} ({a}-thm.met 𝓤 H 𝓜 𝓖 𝓡))' for (a,N),f in zip(callees,s.names)]
     def allocs(s): return ' '.join(f'alloc1 ! (λ l{i}.' for i in range(s.nloc))
     # ---- answer, open
     def thin(s):
