@@ -106,7 +106,7 @@ use denote.Ref.{RefT}
 use denote.Slice.{sliceTy, sliceVal, MutSlice, ShrSlice, Room, slice-vals, mut-slice-tells, shr-slice-tells}
 use denote.Lend.{Held}
 use denote.Signature.{plain}
-use denote.Steps.{owned, peeks, facts, heard, nothing, only}
+use denote.Steps.{owned, peeks, facts, heard as hears, nothing, only}
 use denote.Struct.Laws as LL
 use denote.Enum.Laws as EL
 use denote.Triple.Entry.{Args, Vals, onEntry}
@@ -318,7 +318,7 @@ f'    (cited 𝓤 H ({N} 𝓤 H (𝓖 .A) (𝓜 .mem) (𝓡 .run)) 𝓜 𝓡 cod
         f'        calls-at ! fm (Core 𝓤 H A mem run) known-core to-core {opds(args)} (λ w.',
         f'        use1 W (later (some (λ (r : {step}). (raw (toks 𝓤 A {L} κs qs) ⊛ ‵ (T-{step}.the-row .own r (w ∷ []))) ⊛ raw (ensured 𝓤 H A core.ended (core.clauses 𝓤 H A mem run) κs (n, rest) tt r)))) (id⊢ 𝓤 _) $ await ! tt $ pick ! (λ r.',
         f'        split ! $ move ! (1 ∷ []) $ use1 W (some (λ (ws : Lasts core.ended κs (n, rest)). ‵ (lasts core.ended κs (n, rest) ws) ⊛ raw (fact 𝓤 (Claim′ r ws)))) (id⊢ 𝓤 _) $ pick ! (λ ws.',
-        f'        split ! $ move ! (1 ∷ []) $ heard ! (Claim′ r ws) (λ e. fsplit ! $ drop ! $']
+        f'        split ! $ move ! (1 ∷ []) $ hears ! (Claim′ r ws) (λ e. fsplit ! $ drop ! $']
         def said(w):  # the rows of what is said, before and after the history
             return (f'said-of κs (tail′ (core.signature .params)) (core.ended .kept .1) rest (ws .1)')
         sb=rowlist(f'left (({s.rowrest(p)}) .exit yes) {p.name} ({ws(i)})' for i,p in enumerate(rest[:s.k]))
@@ -336,7 +336,7 @@ f'    (cited 𝓤 H ({N} 𝓤 H (𝓖 .A) (𝓜 .mem) (𝓡 .run)) 𝓜 𝓡 cod
             f'        calls-at ! fm (Note 𝓤 H A mem run) known-note (to-note r is) {opds([look(at(HS,3)),fldin(at(STEP,3),fa[1]),fldin(at(STEP,3),fo[1])])} (λ u.',
             f'        use1 W (later (some (λ (t : Unit {{0}}). ((‵ (flft κ q) ⊛ ‵ ftrue) ⊛ ‵ (Nothing .own t (u ∷ []))) ⊛ raw (ensured 𝓤 H A note.ended (note.clauses 𝓤 H A mem run) (κ, tt) {nargs} tt t)))) (id⊢ 𝓤 _) $ await ! tt $ pick ! (λ t.',
             f'        split ! $ move ! (1 ∷ []) $ use1 W (some (λ (zs : Lasts note.ended (κ, tt) {nargs}). ‵ (lasts note.ended (κ, tt) {nargs} zs) ⊛ raw (fact 𝓤 ({zsT})))) (id⊢ 𝓤 _) $ pick ! (λ zs.',
-            f'        split ! $ move ! (1 ∷ []) $ heard ! ({zsT}) (λ f. fsplit ! $ move ! (1 ∷ []) $ drop ! $',
+            f'        split ! $ move ! (1 ∷ []) $ hears ! ({zsT}) (λ f. fsplit ! $ move ! (1 ∷ []) $ drop ! $',
             '        move ! (1 ∷ []) $ split ! $ move ! (1 ∷ []) $ facts ! Nothing (Is Nothing) (shows 𝓤 H A Nothing) t (u ∷ []) (λ isu. split ! $ move ! (1 ∷ []) $ drop ! $',
             f'        -- [the history\'s token; what is said of the history; the tokens; what is said; _{N-1}; …]',
             f'        land ! (from ! (stop !)) (init ! {at(UNIT,4)} refl (nothing-lawful 𝓤 H A W .typed t _ isu .0)) $',
@@ -431,7 +431,7 @@ f'    (cited 𝓤 H ({N} 𝓤 H (𝓖 .A) (𝓜 .mem) (𝓡 .run)) 𝓜 𝓡 cod
         f'        calls-at ! fm (Core 𝓤 H A mem run) known-core (to-core {cx}) {opds([look(at(tmp[i][1] if i in tmp else 1+i,2,g)) for i in range(P)])} (λ w.',
         f'        use1 W (later (some (λ (r : {res}). (raw (toks 𝓤 A {L+1} (out-κs {cx}) (out-qs {cx})) ⊛ ‵ (T-{res}.the-row .own r (w ∷ []))) ⊛ raw (ensured 𝓤 H A core.ended (core.clauses 𝓤 H A mem run) (out-κs {cx}) (out-all {cx}) tt r)))) (id⊢ 𝓤 _) $ await ! tt $ pick ! (λ r.',
         f'        split ! $ move ! (1 ∷ []) $ use1 W (some (λ (ws : Lasts core.ended (out-κs {cx}) (out-all {cx})). ‵ (lasts core.ended (out-κs {cx}) (out-all {cx}) ws) ⊛ raw (fact 𝓤 (Claim′ {cx} r ws)))) (id⊢ 𝓤 _) $ pick ! (λ ws.',
-        f'        split ! $ move ! (1 ∷ []) $ heard ! (Claim′ {cx} r ws) (λ e. use1 W (‵ (conj (({sb}) ++ ({sa}))) ⊛ ‵ (left (MutSlice (named 0) (α ∷ []) Ro.the-row .exit yes) (h′ {cx}) ({wsh}))) (out-at 𝓤 H A W ({sb}) (left (MutSlice (named 0) (α ∷ []) Ro.the-row .exit yes) (h′ {cx}) ({wsh})) ({sa})) $ split ! $ move ! (1 ∷ []) $ fsplit ! $ move ! (1 ∷ []) $ drop ! $',
+        f'        split ! $ move ! (1 ∷ []) $ hears ! (Claim′ {cx} r ws) (λ e. use1 W (‵ (conj (({sb}) ++ ({sa}))) ⊛ ‵ (left (MutSlice (named 0) (α ∷ []) Ro.the-row .exit yes) (h′ {cx}) ({wsh}))) (out-at 𝓤 H A W ({sb}) (left (MutSlice (named 0) (α ∷ []) Ro.the-row .exit yes) (h′ {cx}) ({wsh})) ({sa})) $ split ! $ move ! (1 ∷ []) $ fsplit ! $ move ! (1 ∷ []) $ drop ! $',
         '        -- [the last list; what is said of the others; the tokens and the result; what the lender keeps; the locals]',
         f'        move ! (2 ∷ []) $ split ! $ use1 W (raw (toks 𝓤 A {L} κs qs) ⊛ ‵ (flft (α ∷ []) fullShare)) (out-at 𝓤 H A W ({t1}) (flft (α ∷ []) fullShare) ({t2})) $ split ! $ move ! (2 ∷ []) $ facts ! T-{res}.the-row (Is T-{res}.the-row) (shows 𝓤 H A T-{res}.the-row) r (w ∷ []) (λ is-r.',
         '        -- [the tokens; the token; the last list; what is said; what the lender keeps; the locals]',

@@ -30,7 +30,7 @@ use denote.Plain.{Nothing, Boolean, uint-makes, nothing-lawful}
 use denote.Builtin.{u32, usize, f64}
 use denote.Ref.{RefT}
 use denote.Slice.{sliceVal, MutSlice, ShrSlice, Room, slice-vals, mut-slice-tells, shr-slice-tells}
-use denote.Steps.{owned, facts, heard, nothing, only}
+use denote.Steps.{owned, facts, heard as hears, nothing, only}
 use denote.Struct.Laws as LL
 use denote.Triple.Entry.{Args, Vals, onEntry}
 use denote.Triple.Spec.{Meets, tripleOf}
@@ -220,7 +220,7 @@ module _ {M : Type 1} (𝓤 : URA M) (H : Heap 𝓤) (A : Atoms 𝓤) (W : Given
         calls-at ! fm (Core 𝓤 H A mem run) known-core to-core (and-then ! (load ! (from ! (stop !)) (look ! 41 refl)) (and-then ! (load ! (from ! (stop !)) (look ! 77 refl)) (and-then ! (load ! (from ! (stop !)) (look ! 75 refl)) (and-then ! (load ! (from ! (stop !)) (look ! 73 refl)) (and-then ! (load ! (from ! (stop !)) (look ! 71 refl)) (and-then ! (load ! (from ! (stop !)) (look ! 69 refl)) (and-then ! (load ! (from ! (stop !)) (look ! 67 refl)) (and-then ! (load ! (from ! (stop !)) (look ! 65 refl)) (and-then ! (load ! (from ! (stop !)) (look ! 63 refl)) (and-then ! (load ! (from ! (stop !)) (look ! 37 refl)) (and-then ! (load ! (from ! (stop !)) (look ! 33 refl)) (and-then ! (load ! (from ! (stop !)) (look ! 29 refl)) (and-then ! (load ! (from ! (stop !)) (look ! 25 refl)) (and-then ! (load ! (from ! (stop !)) (look ! 21 refl)) (and-then ! (load ! (from ! (stop !)) (look ! 17 refl)) (and-then ! (load ! (from ! (stop !)) (look ! 13 refl)) (and-then ! (load ! (from ! (stop !)) (look ! 9 refl)) (no-more !)))))))))))))))))) (λ w.
         use1 W (later (some (λ (r : Step). (raw (toks 𝓤 A 14 κs qs) ⊛ ‵ (T-Step.the-row .own r (w ∷ []))) ⊛ raw (ensured 𝓤 H A core.ended (core.clauses 𝓤 H A mem run) κs (n, rest) tt r)))) (id⊢ 𝓤 _) $ await ! tt $ pick ! (λ r.
         split ! $ move ! (1 ∷ []) $ use1 W (some (λ (ws : Lasts core.ended κs (n, rest)). ‵ (lasts core.ended κs (n, rest) ws) ⊛ raw (fact 𝓤 (Claim′ r ws)))) (id⊢ 𝓤 _) $ pick ! (λ ws.
-        split ! $ move ! (1 ∷ []) $ heard ! (Claim′ r ws) (λ e. fsplit ! $ drop ! $
+        split ! $ move ! (1 ∷ []) $ hears ! (Claim′ r ws) (λ e. fsplit ! $ drop ! $
         move ! (1 ∷ []) $ split ! $ move ! (1 ∷ []) $ facts ! T-Step.the-row (Is T-Step.the-row) (shows 𝓤 H A T-Step.the-row) r (w ∷ []) (λ isw.
         -- [the tokens; what is said; the history's token; what it owns; _38; …]
         land ! (from ! (stop !)) (init ! 44 refl (LL.lawful T-Step.the-type T′-Step.the-laws 𝓤 H A W .typed r _ isw .0)) $
@@ -233,7 +233,7 @@ module _ {M : Type 1} (𝓤 : URA M) (H : Heap 𝓤) (A : Atoms 𝓤) (W : Given
         calls-at ! fm (Note 𝓤 H A mem run) known-note (to-note r is) (and-then ! (load ! (from ! (stop !)) (look ! 3 refl)) (and-then ! (load ! (from ! (fld ! refl (stop !))) (look-in ! 43 (sub ! 1 refl (whole !)))) (and-then ! (load ! (from ! (fld ! refl (stop !))) (look-in ! 43 (sub ! 2 refl (whole !)))) (no-more !)))) (λ u.
         use1 W (later (some (λ (t : Unit {0}). ((‵ (flft κ q) ⊛ ‵ ftrue) ⊛ ‵ (Nothing .own t (u ∷ []))) ⊛ raw (ensured 𝓤 H A note.ended (note.clauses 𝓤 H A mem run) (κ, tt) (history, (r .at, (r .entry, tt))) tt t)))) (id⊢ 𝓤 _) $ await ! tt $ pick ! (λ t.
         split ! $ move ! (1 ∷ []) $ use1 W (some (λ (zs : Lasts note.ended (κ, tt) (history, (r .at, (r .entry, tt)))). ‵ (lasts note.ended (κ, tt) (history, (r .at, (r .entry, tt))) zs) ⊛ raw (fact 𝓤 (zs .0 ≡ set (history .now) (r .at) (r .entry))))) (id⊢ 𝓤 _) $ pick ! (λ zs.
-        split ! $ move ! (1 ∷ []) $ heard ! (zs .0 ≡ set (history .now) (r .at) (r .entry)) (λ f. fsplit ! $ move ! (1 ∷ []) $ drop ! $
+        split ! $ move ! (1 ∷ []) $ hears ! (zs .0 ≡ set (history .now) (r .at) (r .entry)) (λ f. fsplit ! $ move ! (1 ∷ []) $ drop ! $
         move ! (1 ∷ []) $ split ! $ move ! (1 ∷ []) $ facts ! Nothing (Is Nothing) (shows 𝓤 H A Nothing) t (u ∷ []) (λ isu. split ! $ move ! (1 ∷ []) $ drop ! $
         -- [the history's token; what is said of the history; the tokens; what is said; _38; …]
         land ! (from ! (stop !)) (init ! 8 refl (nothing-lawful 𝓤 H A W .typed t _ isu .0)) $

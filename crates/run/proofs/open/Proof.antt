@@ -31,7 +31,7 @@ use denote.Array.{Array}
 use denote.Ref.{RefT}
 use denote.Slice.{sliceVal, MutSlice, ShrSlice, Room, slice-vals, mut-slice-tells, shr-slice-tells}
 use denote.Signature.{plain}
-use denote.Steps.{owned, peeks, heard, nothing}
+use denote.Steps.{owned, peeks, heard as hears, nothing}
 use denote.Struct.Laws as LL
 use denote.Triple.Entry.{Args, Vals, onEntry}
 use denote.Triple.Spec.{Meets, tripleOf}
@@ -202,7 +202,7 @@ module _ {M : Type 1} (𝓤 : URA M) (H : Heap 𝓤) (A : Atoms 𝓤) (W : Given
         calls-at ! fm (Core 𝓤 H A mem run) known-core to-core (and-then ! (load ! (from ! (stop !)) (look ! 55 refl)) (and-then ! (load ! (from ! (stop !)) (look ! 99 refl)) (and-then ! (load ! (from ! (stop !)) (look ! 97 refl)) (and-then ! (load ! (from ! (stop !)) (look ! 95 refl)) (and-then ! (load ! (from ! (stop !)) (look ! 93 refl)) (and-then ! (load ! (from ! (stop !)) (look ! 91 refl)) (and-then ! (load ! (from ! (stop !)) (look ! 89 refl)) (and-then ! (load ! (from ! (stop !)) (look ! 87 refl)) (and-then ! (load ! (from ! (stop !)) (look ! 51 refl)) (and-then ! (load ! (from ! (stop !)) (look ! 47 refl)) (and-then ! (load ! (from ! (stop !)) (look ! 43 refl)) (and-then ! (load ! (from ! (stop !)) (look ! 39 refl)) (and-then ! (load ! (from ! (stop !)) (look ! 35 refl)) (and-then ! (load ! (from ! (stop !)) (look ! 75 refl)) (and-then ! (load ! (from ! (stop !)) (look ! 31 refl)) (and-then ! (load ! (from ! (stop !)) (look ! 27 refl)) (and-then ! (load ! (from ! (stop !)) (look ! 23 refl)) (and-then ! (load ! (from ! (stop !)) (look ! 19 refl)) (and-then ! (load ! (from ! (stop !)) (look ! 15 refl)) (and-then ! (load ! (from ! (stop !)) (look ! 11 refl)) (and-then ! (load ! (from ! (stop !)) (look ! 7 refl)) (and-then ! (load ! (from ! (stop !)) (look ! 3 refl)) (no-more !))))))))))))))))))))))) (λ w.
         use1 W (later (some (λ (r : Returned). (raw (toks 𝓤 A 18 κs qs) ⊛ ‵ (T-Returned.the-row .own r (w ∷ []))) ⊛ raw (ensured 𝓤 H A core.ended (core.clauses 𝓤 H A mem run) κs (n, rest) tt r)))) (id⊢ 𝓤 _) $ await ! tt $ pick ! (λ r.
         split ! $ move ! (1 ∷ []) $ use1 W (some (λ (ws : Lasts core.ended κs (n, rest)). ‵ (lasts core.ended κs (n, rest) ws) ⊛ raw (fact 𝓤 (Claim′ r ws)))) (id⊢ 𝓤 _) $ pick ! (λ ws.
-        split ! $ move ! (1 ∷ []) $ heard ! (Claim′ r ws) (λ e. fsplit ! $ drop ! $
+        split ! $ move ! (1 ∷ []) $ hears ! (Claim′ r ws) (λ e. fsplit ! $ drop ! $
         move ! (1 ∷ []) $ split ! $ move ! (1 ∷ []) $ peeks ! T-Returned.the-row (Is T-Returned.the-row) (shows 𝓤 H A T-Returned.the-row) r (w ∷ []) (λ isw.
         -- [the result; the tokens; what is said; the history's token; what it owns; _49; …]
         land ! (from ! (stop !)) (init ! 103 refl (LL.lawful T-Returned.the-type T′-Returned.the-laws 𝓤 H A W .typed r _ isw .0)) $

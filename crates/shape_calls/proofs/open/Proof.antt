@@ -36,7 +36,7 @@ use denote.Array.{Array, array-vals, array-tells, array-lawful}
 use denote.Ref.{RefT}
 use denote.Slice.{sliceTy, sliceVal, MutSlice, ShrSlice, Room, slice-vals, mut-slice-tells, shr-slice-tells}
 use denote.Lend.{Held}
-use denote.Steps.{owned, facts, heard, nothing, only}
+use denote.Steps.{owned, facts, heard as hears, nothing, only}
 use denote.Struct.Laws as LL
 use denote.Triple.Entry.{Args, Vals, onEntry}
 use denote.Triple.Spec.{Meets, tripleOf}
@@ -253,7 +253,7 @@ module _ {M : Type 1} (𝓤 : URA M) (H : Heap 𝓤) (A : Atoms 𝓤) (W : Given
         calls-at ! fm (Core 𝓤 H A mem run) known-core (to-core l23 α γ) (and-then ! (load ! (from ! (stop !)) (look ! 105 refl)) (and-then ! (load ! (from ! (stop !)) (look ! 103 refl)) (and-then ! (load ! (from ! (stop !)) (look ! 101 refl)) (and-then ! (load ! (from ! (stop !)) (look ! 99 refl)) (and-then ! (load ! (from ! (stop !)) (look ! 97 refl)) (and-then ! (load ! (from ! (stop !)) (look ! 95 refl)) (and-then ! (load ! (from ! (stop !)) (look ! 93 refl)) (and-then ! (load ! (from ! (stop !)) (look ! 56 refl)) (and-then ! (load ! (from ! (stop !)) (look ! 52 refl)) (and-then ! (load ! (from ! (stop !)) (look ! 48 refl)) (and-then ! (load ! (from ! (stop !)) (look ! 44 refl)) (and-then ! (load ! (from ! (stop !)) (look ! 40 refl)) (and-then ! (load ! (from ! (stop !)) (look ! 81 refl)) (and-then ! (load ! (from ! (stop !)) (look ! 36 refl)) (and-then ! (load ! (from ! (stop !)) (look ! 32 refl)) (and-then ! (load ! (from ! (stop !)) (look ! 28 refl)) (and-then ! (load ! (from ! (stop !)) (look ! 24 refl)) (and-then ! (load ! (from ! (stop !)) (look ! 20 refl)) (and-then ! (load ! (from ! (stop !)) (look ! 16 refl)) (and-then ! (load ! (from ! (stop !)) (look ! 12 refl)) (and-then ! (load ! (from ! (stop !)) (look ! 8 refl)) (and-then ! (load ! (from ! (stop !)) (look ! 4 refl)) (no-more !))))))))))))))))))))))) (λ w.
         use1 W (later (some (λ (r : Returned). (raw (toks 𝓤 A 19 (out-κs l23 α γ) (out-qs l23 α γ)) ⊛ ‵ (T-Returned.the-row .own r (w ∷ []))) ⊛ raw (ensured 𝓤 H A core.ended (core.clauses 𝓤 H A mem run) (out-κs l23 α γ) (out-all l23 α γ) tt r)))) (id⊢ 𝓤 _) $ await ! tt $ pick ! (λ r.
         split ! $ move ! (1 ∷ []) $ use1 W (some (λ (ws : Lasts core.ended (out-κs l23 α γ) (out-all l23 α γ)). ‵ (lasts core.ended (out-κs l23 α γ) (out-all l23 α γ) ws) ⊛ raw (fact 𝓤 (Claim′ l23 α γ r ws)))) (id⊢ 𝓤 _) $ pick ! (λ ws.
-        split ! $ move ! (1 ∷ []) $ heard ! (Claim′ l23 α γ r ws) (λ e. use1 W (‵ (conj ((left ((T-State.the-row) .exit yes) state (ws .0) ∷ left ((T-Goal.the-row) .exit yes) goal (ws .1 .0) ∷ left ((Boolean) .exit yes) flag (ws .1 .1 .0) ∷ left ((ShrSlice (named 0) (κs .0) f64) .exit yes) volumes (ws .1 .1 .1 .0) ∷ left ((ShrSlice (named 1) (κs .1 .0) (Array f64 3)) .exit yes) centroids (ws .1 .1 .1 .1 .0) ∷ left ((ShrSlice (named 2) (κs .1 .1 .0) Boolean) .exit yes) passive (ws .1 .1 .1 .1 .1 .0) ∷ left ((ShrSlice (named 3) (κs .1 .1 .1 .0) (Array f64 6)) .exit yes) mirrors (ws .1 .1 .1 .1 .1 .1 .0) ∷ left ((MutSlice (named 4) (κs .1 .1 .1 .1 .0) u32) .exit yes) starts (ws .1 .1 .1 .1 .1 .1 .1 .0) ∷ left ((MutSlice (named 5) (κs .1 .1 .1 .1 .1 .0) u32) .exit yes) near (ws .1 .1 .1 .1 .1 .1 .1 .1 .0) ∷ left ((MutSlice (named 6) (κs .1 .1 .1 .1 .1 .1 .0) f64) .exit yes) coef (ws .1 .1 .1 .1 .1 .1 .1 .1 .1 .0) ∷ left ((MutSlice (named 7) (κs .1 .1 .1 .1 .1 .1 .1 .0) f64) .exit yes) design (ws .1 .1 .1 .1 .1 .1 .1 .1 .1 .1 .0) ∷ left ((MutSlice (named 8) (κs .1 .1 .1 .1 .1 .1 .1 .1 .0) f64) .exit yes) density (ws .1 .1 .1 .1 .1 .1 .1 .1 .1 .1 .1 .0) ∷ left ((ShrSlice (named 9) (κs .1 .1 .1 .1 .1 .1 .1 .1 .1 .0) f64) .exit yes) last (ws .1 .1 .1 .1 .1 .1 .1 .1 .1 .1 .1 .1 .0) ∷ []) ++ (left ((MutSlice (named 10) (κs .1 .1 .1 .1 .1 .1 .1 .1 .1 .1 .0) (Array u64 3)) .exit yes) cell (ws .1 .1 .1 .1 .1 .1 .1 .1 .1 .1 .1 .1 .1 .1 .0) ∷ left ((MutSlice (named 11) (κs .1 .1 .1 .1 .1 .1 .1 .1 .1 .1 .1 .0) u32) .exit yes) order (ws .1 .1 .1 .1 .1 .1 .1 .1 .1 .1 .1 .1 .1 .1 .1 .0) ∷ left ((MutSlice (named 12) (κs .1 .1 .1 .1 .1 .1 .1 .1 .1 .1 .1 .1 .0) u32) .exit yes) first (ws .1 .1 .1 .1 .1 .1 .1 .1 .1 .1 .1 .1 .1 .1 .1 .1 .0) ∷ left ((MutSlice (named 13) (κs .1 .1 .1 .1 .1 .1 .1 .1 .1 .1 .1 .1 .1 .0) (Array f64 3)) .exit yes) sorted (ws .1 .1 .1 .1 .1 .1 .1 .1 .1 .1 .1 .1 .1 .1 .1 .1 .1 .0) ∷ left ((MutSlice (named 14) (κs .1 .1 .1 .1 .1 .1 .1 .1 .1 .1 .1 .1 .1 .1 .0) u32) .exit yes) stamp (ws .1 .1 .1 .1 .1 .1 .1 .1 .1 .1 .1 .1 .1 .1 .1 .1 .1 .1 .0) ∷ left ((MutSlice (named 15) (κs .1 .1 .1 .1 .1 .1 .1 .1 .1 .1 .1 .1 .1 .1 .1 .0) f64) .exit yes) weight (ws .1 .1 .1 .1 .1 .1 .1 .1 .1 .1 .1 .1 .1 .1 .1 .1 .1 .1 .1 .0) ∷ left ((MutSlice (named 16) (κs .1 .1 .1 .1 .1 .1 .1 .1 .1 .1 .1 .1 .1 .1 .1 .1 .0) u32) .exit yes) found (ws .1 .1 .1 .1 .1 .1 .1 .1 .1 .1 .1 .1 .1 .1 .1 .1 .1 .1 .1 .1 .0) ∷ left ((MutSlice (named 17) (κs .1 .1 .1 .1 .1 .1 .1 .1 .1 .1 .1 .1 .1 .1 .1 .1 .1 .0) u64) .exit yes) bits (ws .1 .1 .1 .1 .1 .1 .1 .1 .1 .1 .1 .1 .1 .1 .1 .1 .1 .1 .1 .1 .1 .0) ∷ []))) ⊛ ‵ (left (MutSlice (named 0) (α ∷ []) Ro.the-row .exit yes) (h′ l23 α γ) (ws .1 .1 .1 .1 .1 .1 .1 .1 .1 .1 .1 .1 .1 .0))) (out-at 𝓤 H A W (left ((T-State.the-row) .exit yes) state (ws .0) ∷ left ((T-Goal.the-row) .exit yes) goal (ws .1 .0) ∷ left ((Boolean) .exit yes) flag (ws .1 .1 .0) ∷ left ((ShrSlice (named 0) (κs .0) f64) .exit yes) volumes (ws .1 .1 .1 .0) ∷ left ((ShrSlice (named 1) (κs .1 .0) (Array f64 3)) .exit yes) centroids (ws .1 .1 .1 .1 .0) ∷ left ((ShrSlice (named 2) (κs .1 .1 .0) Boolean) .exit yes) passive (ws .1 .1 .1 .1 .1 .0) ∷ left ((ShrSlice (named 3) (κs .1 .1 .1 .0) (Array f64 6)) .exit yes) mirrors (ws .1 .1 .1 .1 .1 .1 .0) ∷ left ((MutSlice (named 4) (κs .1 .1 .1 .1 .0) u32) .exit yes) starts (ws .1 .1 .1 .1 .1 .1 .1 .0) ∷ left ((MutSlice (named 5) (κs .1 .1 .1 .1 .1 .0) u32) .exit yes) near (ws .1 .1 .1 .1 .1 .1 .1 .1 .0) ∷ left ((MutSlice (named 6) (κs .1 .1 .1 .1 .1 .1 .0) f64) .exit yes) coef (ws .1 .1 .1 .1 .1 .1 .1 .1 .1 .0) ∷ left ((MutSlice (named 7) (κs .1 .1 .1 .1 .1 .1 .1 .0) f64) .exit yes) design (ws .1 .1 .1 .1 .1 .1 .1 .1 .1 .1 .0) ∷ left ((MutSlice (named 8) (κs .1 .1 .1 .1 .1 .1 .1 .1 .0) f64) .exit yes) density (ws .1 .1 .1 .1 .1 .1 .1 .1 .1 .1 .1 .0) ∷ left ((ShrSlice (named 9) (κs .1 .1 .1 .1 .1 .1 .1 .1 .1 .0) f64) .exit yes) last (ws .1 .1 .1 .1 .1 .1 .1 .1 .1 .1 .1 .1 .0) ∷ []) (left (MutSlice (named 0) (α ∷ []) Ro.the-row .exit yes) (h′ l23 α γ) (ws .1 .1 .1 .1 .1 .1 .1 .1 .1 .1 .1 .1 .1 .0)) (left ((MutSlice (named 10) (κs .1 .1 .1 .1 .1 .1 .1 .1 .1 .1 .0) (Array u64 3)) .exit yes) cell (ws .1 .1 .1 .1 .1 .1 .1 .1 .1 .1 .1 .1 .1 .1 .0) ∷ left ((MutSlice (named 11) (κs .1 .1 .1 .1 .1 .1 .1 .1 .1 .1 .1 .0) u32) .exit yes) order (ws .1 .1 .1 .1 .1 .1 .1 .1 .1 .1 .1 .1 .1 .1 .1 .0) ∷ left ((MutSlice (named 12) (κs .1 .1 .1 .1 .1 .1 .1 .1 .1 .1 .1 .1 .0) u32) .exit yes) first (ws .1 .1 .1 .1 .1 .1 .1 .1 .1 .1 .1 .1 .1 .1 .1 .1 .0) ∷ left ((MutSlice (named 13) (κs .1 .1 .1 .1 .1 .1 .1 .1 .1 .1 .1 .1 .1 .0) (Array f64 3)) .exit yes) sorted (ws .1 .1 .1 .1 .1 .1 .1 .1 .1 .1 .1 .1 .1 .1 .1 .1 .1 .0) ∷ left ((MutSlice (named 14) (κs .1 .1 .1 .1 .1 .1 .1 .1 .1 .1 .1 .1 .1 .1 .0) u32) .exit yes) stamp (ws .1 .1 .1 .1 .1 .1 .1 .1 .1 .1 .1 .1 .1 .1 .1 .1 .1 .1 .0) ∷ left ((MutSlice (named 15) (κs .1 .1 .1 .1 .1 .1 .1 .1 .1 .1 .1 .1 .1 .1 .1 .0) f64) .exit yes) weight (ws .1 .1 .1 .1 .1 .1 .1 .1 .1 .1 .1 .1 .1 .1 .1 .1 .1 .1 .1 .0) ∷ left ((MutSlice (named 16) (κs .1 .1 .1 .1 .1 .1 .1 .1 .1 .1 .1 .1 .1 .1 .1 .1 .0) u32) .exit yes) found (ws .1 .1 .1 .1 .1 .1 .1 .1 .1 .1 .1 .1 .1 .1 .1 .1 .1 .1 .1 .1 .0) ∷ left ((MutSlice (named 17) (κs .1 .1 .1 .1 .1 .1 .1 .1 .1 .1 .1 .1 .1 .1 .1 .1 .1 .0) u64) .exit yes) bits (ws .1 .1 .1 .1 .1 .1 .1 .1 .1 .1 .1 .1 .1 .1 .1 .1 .1 .1 .1 .1 .1 .0) ∷ [])) $ split ! $ move ! (1 ∷ []) $ fsplit ! $ move ! (1 ∷ []) $ drop ! $
+        split ! $ move ! (1 ∷ []) $ hears ! (Claim′ l23 α γ r ws) (λ e. use1 W (‵ (conj ((left ((T-State.the-row) .exit yes) state (ws .0) ∷ left ((T-Goal.the-row) .exit yes) goal (ws .1 .0) ∷ left ((Boolean) .exit yes) flag (ws .1 .1 .0) ∷ left ((ShrSlice (named 0) (κs .0) f64) .exit yes) volumes (ws .1 .1 .1 .0) ∷ left ((ShrSlice (named 1) (κs .1 .0) (Array f64 3)) .exit yes) centroids (ws .1 .1 .1 .1 .0) ∷ left ((ShrSlice (named 2) (κs .1 .1 .0) Boolean) .exit yes) passive (ws .1 .1 .1 .1 .1 .0) ∷ left ((ShrSlice (named 3) (κs .1 .1 .1 .0) (Array f64 6)) .exit yes) mirrors (ws .1 .1 .1 .1 .1 .1 .0) ∷ left ((MutSlice (named 4) (κs .1 .1 .1 .1 .0) u32) .exit yes) starts (ws .1 .1 .1 .1 .1 .1 .1 .0) ∷ left ((MutSlice (named 5) (κs .1 .1 .1 .1 .1 .0) u32) .exit yes) near (ws .1 .1 .1 .1 .1 .1 .1 .1 .0) ∷ left ((MutSlice (named 6) (κs .1 .1 .1 .1 .1 .1 .0) f64) .exit yes) coef (ws .1 .1 .1 .1 .1 .1 .1 .1 .1 .0) ∷ left ((MutSlice (named 7) (κs .1 .1 .1 .1 .1 .1 .1 .0) f64) .exit yes) design (ws .1 .1 .1 .1 .1 .1 .1 .1 .1 .1 .0) ∷ left ((MutSlice (named 8) (κs .1 .1 .1 .1 .1 .1 .1 .1 .0) f64) .exit yes) density (ws .1 .1 .1 .1 .1 .1 .1 .1 .1 .1 .1 .0) ∷ left ((ShrSlice (named 9) (κs .1 .1 .1 .1 .1 .1 .1 .1 .1 .0) f64) .exit yes) last (ws .1 .1 .1 .1 .1 .1 .1 .1 .1 .1 .1 .1 .0) ∷ []) ++ (left ((MutSlice (named 10) (κs .1 .1 .1 .1 .1 .1 .1 .1 .1 .1 .0) (Array u64 3)) .exit yes) cell (ws .1 .1 .1 .1 .1 .1 .1 .1 .1 .1 .1 .1 .1 .1 .0) ∷ left ((MutSlice (named 11) (κs .1 .1 .1 .1 .1 .1 .1 .1 .1 .1 .1 .0) u32) .exit yes) order (ws .1 .1 .1 .1 .1 .1 .1 .1 .1 .1 .1 .1 .1 .1 .1 .0) ∷ left ((MutSlice (named 12) (κs .1 .1 .1 .1 .1 .1 .1 .1 .1 .1 .1 .1 .0) u32) .exit yes) first (ws .1 .1 .1 .1 .1 .1 .1 .1 .1 .1 .1 .1 .1 .1 .1 .1 .0) ∷ left ((MutSlice (named 13) (κs .1 .1 .1 .1 .1 .1 .1 .1 .1 .1 .1 .1 .1 .0) (Array f64 3)) .exit yes) sorted (ws .1 .1 .1 .1 .1 .1 .1 .1 .1 .1 .1 .1 .1 .1 .1 .1 .1 .0) ∷ left ((MutSlice (named 14) (κs .1 .1 .1 .1 .1 .1 .1 .1 .1 .1 .1 .1 .1 .1 .0) u32) .exit yes) stamp (ws .1 .1 .1 .1 .1 .1 .1 .1 .1 .1 .1 .1 .1 .1 .1 .1 .1 .1 .0) ∷ left ((MutSlice (named 15) (κs .1 .1 .1 .1 .1 .1 .1 .1 .1 .1 .1 .1 .1 .1 .1 .0) f64) .exit yes) weight (ws .1 .1 .1 .1 .1 .1 .1 .1 .1 .1 .1 .1 .1 .1 .1 .1 .1 .1 .1 .0) ∷ left ((MutSlice (named 16) (κs .1 .1 .1 .1 .1 .1 .1 .1 .1 .1 .1 .1 .1 .1 .1 .1 .0) u32) .exit yes) found (ws .1 .1 .1 .1 .1 .1 .1 .1 .1 .1 .1 .1 .1 .1 .1 .1 .1 .1 .1 .1 .0) ∷ left ((MutSlice (named 17) (κs .1 .1 .1 .1 .1 .1 .1 .1 .1 .1 .1 .1 .1 .1 .1 .1 .1 .0) u64) .exit yes) bits (ws .1 .1 .1 .1 .1 .1 .1 .1 .1 .1 .1 .1 .1 .1 .1 .1 .1 .1 .1 .1 .1 .0) ∷ []))) ⊛ ‵ (left (MutSlice (named 0) (α ∷ []) Ro.the-row .exit yes) (h′ l23 α γ) (ws .1 .1 .1 .1 .1 .1 .1 .1 .1 .1 .1 .1 .1 .0))) (out-at 𝓤 H A W (left ((T-State.the-row) .exit yes) state (ws .0) ∷ left ((T-Goal.the-row) .exit yes) goal (ws .1 .0) ∷ left ((Boolean) .exit yes) flag (ws .1 .1 .0) ∷ left ((ShrSlice (named 0) (κs .0) f64) .exit yes) volumes (ws .1 .1 .1 .0) ∷ left ((ShrSlice (named 1) (κs .1 .0) (Array f64 3)) .exit yes) centroids (ws .1 .1 .1 .1 .0) ∷ left ((ShrSlice (named 2) (κs .1 .1 .0) Boolean) .exit yes) passive (ws .1 .1 .1 .1 .1 .0) ∷ left ((ShrSlice (named 3) (κs .1 .1 .1 .0) (Array f64 6)) .exit yes) mirrors (ws .1 .1 .1 .1 .1 .1 .0) ∷ left ((MutSlice (named 4) (κs .1 .1 .1 .1 .0) u32) .exit yes) starts (ws .1 .1 .1 .1 .1 .1 .1 .0) ∷ left ((MutSlice (named 5) (κs .1 .1 .1 .1 .1 .0) u32) .exit yes) near (ws .1 .1 .1 .1 .1 .1 .1 .1 .0) ∷ left ((MutSlice (named 6) (κs .1 .1 .1 .1 .1 .1 .0) f64) .exit yes) coef (ws .1 .1 .1 .1 .1 .1 .1 .1 .1 .0) ∷ left ((MutSlice (named 7) (κs .1 .1 .1 .1 .1 .1 .1 .0) f64) .exit yes) design (ws .1 .1 .1 .1 .1 .1 .1 .1 .1 .1 .0) ∷ left ((MutSlice (named 8) (κs .1 .1 .1 .1 .1 .1 .1 .1 .0) f64) .exit yes) density (ws .1 .1 .1 .1 .1 .1 .1 .1 .1 .1 .1 .0) ∷ left ((ShrSlice (named 9) (κs .1 .1 .1 .1 .1 .1 .1 .1 .1 .0) f64) .exit yes) last (ws .1 .1 .1 .1 .1 .1 .1 .1 .1 .1 .1 .1 .0) ∷ []) (left (MutSlice (named 0) (α ∷ []) Ro.the-row .exit yes) (h′ l23 α γ) (ws .1 .1 .1 .1 .1 .1 .1 .1 .1 .1 .1 .1 .1 .0)) (left ((MutSlice (named 10) (κs .1 .1 .1 .1 .1 .1 .1 .1 .1 .1 .0) (Array u64 3)) .exit yes) cell (ws .1 .1 .1 .1 .1 .1 .1 .1 .1 .1 .1 .1 .1 .1 .0) ∷ left ((MutSlice (named 11) (κs .1 .1 .1 .1 .1 .1 .1 .1 .1 .1 .1 .0) u32) .exit yes) order (ws .1 .1 .1 .1 .1 .1 .1 .1 .1 .1 .1 .1 .1 .1 .1 .0) ∷ left ((MutSlice (named 12) (κs .1 .1 .1 .1 .1 .1 .1 .1 .1 .1 .1 .1 .0) u32) .exit yes) first (ws .1 .1 .1 .1 .1 .1 .1 .1 .1 .1 .1 .1 .1 .1 .1 .1 .0) ∷ left ((MutSlice (named 13) (κs .1 .1 .1 .1 .1 .1 .1 .1 .1 .1 .1 .1 .1 .0) (Array f64 3)) .exit yes) sorted (ws .1 .1 .1 .1 .1 .1 .1 .1 .1 .1 .1 .1 .1 .1 .1 .1 .1 .0) ∷ left ((MutSlice (named 14) (κs .1 .1 .1 .1 .1 .1 .1 .1 .1 .1 .1 .1 .1 .1 .0) u32) .exit yes) stamp (ws .1 .1 .1 .1 .1 .1 .1 .1 .1 .1 .1 .1 .1 .1 .1 .1 .1 .1 .0) ∷ left ((MutSlice (named 15) (κs .1 .1 .1 .1 .1 .1 .1 .1 .1 .1 .1 .1 .1 .1 .1 .0) f64) .exit yes) weight (ws .1 .1 .1 .1 .1 .1 .1 .1 .1 .1 .1 .1 .1 .1 .1 .1 .1 .1 .1 .0) ∷ left ((MutSlice (named 16) (κs .1 .1 .1 .1 .1 .1 .1 .1 .1 .1 .1 .1 .1 .1 .1 .1 .0) u32) .exit yes) found (ws .1 .1 .1 .1 .1 .1 .1 .1 .1 .1 .1 .1 .1 .1 .1 .1 .1 .1 .1 .1 .0) ∷ left ((MutSlice (named 17) (κs .1 .1 .1 .1 .1 .1 .1 .1 .1 .1 .1 .1 .1 .1 .1 .1 .1 .0) u64) .exit yes) bits (ws .1 .1 .1 .1 .1 .1 .1 .1 .1 .1 .1 .1 .1 .1 .1 .1 .1 .1 .1 .1 .1 .0) ∷ [])) $ split ! $ move ! (1 ∷ []) $ fsplit ! $ move ! (1 ∷ []) $ drop ! $
         -- [the last list; what is said of the others; the tokens and the result; what the lender keeps; the locals]
         move ! (2 ∷ []) $ split ! $ use1 W (raw (toks 𝓤 A 18 κs qs) ⊛ ‵ (flft (α ∷ []) fullShare)) (out-at 𝓤 H A W (tokens 10 (κs .0, (κs .1 .0, (κs .1 .1 .0, (κs .1 .1 .1 .0, (κs .1 .1 .1 .1 .0, (κs .1 .1 .1 .1 .1 .0, (κs .1 .1 .1 .1 .1 .1 .0, (κs .1 .1 .1 .1 .1 .1 .1 .0, (κs .1 .1 .1 .1 .1 .1 .1 .1 .0, (κs .1 .1 .1 .1 .1 .1 .1 .1 .1 .0, tt)))))))))) (qs .0, (qs .1 .0, (qs .1 .1 .0, (qs .1 .1 .1 .0, (qs .1 .1 .1 .1 .0, (qs .1 .1 .1 .1 .1 .0, (qs .1 .1 .1 .1 .1 .1 .0, (qs .1 .1 .1 .1 .1 .1 .1 .0, (qs .1 .1 .1 .1 .1 .1 .1 .1 .0, (qs .1 .1 .1 .1 .1 .1 .1 .1 .1 .0, tt))))))))))) (flft (α ∷ []) fullShare) (tokens 8 (κs .1 .1 .1 .1 .1 .1 .1 .1 .1 .1 .0, (κs .1 .1 .1 .1 .1 .1 .1 .1 .1 .1 .1 .0, (κs .1 .1 .1 .1 .1 .1 .1 .1 .1 .1 .1 .1 .0, (κs .1 .1 .1 .1 .1 .1 .1 .1 .1 .1 .1 .1 .1 .0, (κs .1 .1 .1 .1 .1 .1 .1 .1 .1 .1 .1 .1 .1 .1 .0, (κs .1 .1 .1 .1 .1 .1 .1 .1 .1 .1 .1 .1 .1 .1 .1 .0, (κs .1 .1 .1 .1 .1 .1 .1 .1 .1 .1 .1 .1 .1 .1 .1 .1 .0, (κs .1 .1 .1 .1 .1 .1 .1 .1 .1 .1 .1 .1 .1 .1 .1 .1 .1 .0, tt)))))))) (qs .1 .1 .1 .1 .1 .1 .1 .1 .1 .1 .0, (qs .1 .1 .1 .1 .1 .1 .1 .1 .1 .1 .1 .0, (qs .1 .1 .1 .1 .1 .1 .1 .1 .1 .1 .1 .1 .0, (qs .1 .1 .1 .1 .1 .1 .1 .1 .1 .1 .1 .1 .1 .0, (qs .1 .1 .1 .1 .1 .1 .1 .1 .1 .1 .1 .1 .1 .1 .0, (qs .1 .1 .1 .1 .1 .1 .1 .1 .1 .1 .1 .1 .1 .1 .1 .0, (qs .1 .1 .1 .1 .1 .1 .1 .1 .1 .1 .1 .1 .1 .1 .1 .1 .0, (qs .1 .1 .1 .1 .1 .1 .1 .1 .1 .1 .1 .1 .1 .1 .1 .1 .1 .0, tt)))))))))) $ split ! $ move ! (2 ∷ []) $ facts ! T-Returned.the-row (Is T-Returned.the-row) (shows 𝓤 H A T-Returned.the-row) r (w ∷ []) (λ is-r.
         -- [the tokens; the token; the last list; what is said; what the lender keeps; the locals]
