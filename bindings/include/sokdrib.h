@@ -129,10 +129,24 @@ typedef struct {
 } SokdribRunState;
 
 typedef struct {
+    double fraction;
+    double radius;
+    bool sharpen;
+    size_t max_iterations;
+} SokdribRunGoal;
+
+typedef struct {
     SokdribRunState state;
     uint32_t reply;
     size_t number;
-} SokdribRunTold;
+} SokdribRunReturned;
+
+typedef struct {
+    uint32_t said;
+    bool flag;
+    uint64_t elapsed;
+    uint64_t allowed;
+} SokdribRunHeard;
 
 typedef struct {
     size_t number;
@@ -145,7 +159,7 @@ typedef struct {
 } SokdribRunRecord;
 
 typedef struct {
-    SokdribRunTold told;
+    SokdribRunReturned returned;
     size_t at;
     SokdribRunRecord entry;
 } SokdribRunStep;
@@ -168,7 +182,9 @@ _Static_assert(sizeof(SokdribStart) == 48, "SokdribStart");
 _Static_assert(sizeof(SokdribProjected) == 16, "SokdribProjected");
 _Static_assert(sizeof(SokdribKept) == 16, "SokdribKept");
 _Static_assert(sizeof(SokdribRunState) == 96, "SokdribRunState");
-_Static_assert(sizeof(SokdribRunTold) == 112, "SokdribRunTold");
+_Static_assert(sizeof(SokdribRunGoal) == 32, "SokdribRunGoal");
+_Static_assert(sizeof(SokdribRunReturned) == 112, "SokdribRunReturned");
+_Static_assert(sizeof(SokdribRunHeard) == 24, "SokdribRunHeard");
 _Static_assert(sizeof(SokdribRunRecord) == 56, "SokdribRunRecord");
 _Static_assert(sizeof(SokdribRunStep) == 176, "SokdribRunStep");
 _Static_assert(sizeof(SokdribUpdate) == 32, "SokdribUpdate");
@@ -570,13 +586,10 @@ double sokdrib_grey(const double *density, size_t density_len, const double *fre
  * for; the opening writes none. 1 to 12, 20, and 14 before the first row, leave all lists as before; 13 and 14 at a row leave the filter's lists and the
  * working lists (cell and those after it) zero throughout, and 15, by the flag, the finished filter and the working lists zero. The fresh state is all zero; a
  * phase above 2 is refused with 20. */
-SokdribRunTold sokdrib_open(
+SokdribRunReturned sokdrib_open(
     size_t room,
     SokdribRunState state,
-    double fraction,
-    double radius,
-    bool sharpen,
-    size_t max_iterations,
+    SokdribRunGoal goal,
     bool flag,
     const double *volumes,
     size_t volumes_len,
@@ -616,17 +629,13 @@ SokdribRunTold sokdrib_open(
     size_t bits_len
 );
 
-/* The solver's answer to the last question: said is 0 where it gave the energies, 1 where it failed, any other number where it stopped; then whether the run
- * is to stop, and the milliseconds elapsed and allowed. The filter's lists, the design and both densities are those that the last call left. The record that
+/* The solver's answer to the last question: what is heard of it, and the energies. The filter's lists, the design and both densities are those that the last call left. The record that
  * is told is to be put at its place of the history, which has room for so many records; where the place is past that there is none. free and the
  * lists after it are for the call's own use. A phase above 2 is refused with 20. */
 SokdribRunStep sokdrib_answer(
     size_t room,
     SokdribRunState state,
-    uint32_t said,
-    bool flag,
-    uint64_t elapsed,
-    uint64_t allowed,
+    SokdribRunHeard heard,
     const double *energies,
     size_t energies_len,
     const double *volumes,

@@ -97,12 +97,32 @@ const _: () = assert!(size_of::<RunState>() == 96 && align_of::<RunState>() == 8
 
 #[repr(C)]
 #[derive(Clone, Copy, Debug, Default, PartialEq)]
-pub struct RunTold {
+pub struct RunGoal {
+    pub fraction: f64,
+    pub radius: f64,
+    pub sharpen: bool,
+    pub max_iterations: usize,
+}
+const _: () = assert!(size_of::<RunGoal>() == 32 && align_of::<RunGoal>() == 8);
+
+#[repr(C)]
+#[derive(Clone, Copy, Debug, Default, PartialEq)]
+pub struct RunReturned {
     pub state: RunState,
     pub reply: u32,
     pub number: usize,
 }
-const _: () = assert!(size_of::<RunTold>() == 112 && align_of::<RunTold>() == 8);
+const _: () = assert!(size_of::<RunReturned>() == 112 && align_of::<RunReturned>() == 8);
+
+#[repr(C)]
+#[derive(Clone, Copy, Debug, Default, PartialEq)]
+pub struct RunHeard {
+    pub said: u32,
+    pub flag: bool,
+    pub elapsed: u64,
+    pub allowed: u64,
+}
+const _: () = assert!(size_of::<RunHeard>() == 24 && align_of::<RunHeard>() == 8);
 
 #[repr(C)]
 #[derive(Clone, Copy, Debug, Default, PartialEq)]
@@ -120,7 +140,7 @@ const _: () = assert!(size_of::<RunRecord>() == 56 && align_of::<RunRecord>() ==
 #[repr(C)]
 #[derive(Clone, Copy, Debug, Default, PartialEq)]
 pub struct RunStep {
-    pub told: RunTold,
+    pub returned: RunReturned,
     pub at: usize,
     pub entry: RunRecord,
 }
@@ -138,7 +158,7 @@ pub struct Update {
 const _: () = assert!(size_of::<Update>() == 32 && align_of::<Update>() == 8);
 
 mod library {
-    use super::{Asymmetry, Kept, Made, Mirror, OffCentre, Projected, RunState, RunStep, RunTold, Start, Update, Vec3};
+    use super::{Asymmetry, Kept, Made, Mirror, OffCentre, Projected, RunGoal, RunHeard, RunReturned, RunState, RunStep, Start, Update, Vec3};
 
     unsafe extern "C" {
         /// The size of x.
@@ -441,10 +461,7 @@ mod library {
         pub unsafe fn sokdrib_open(
             room: usize,
             state: RunState,
-            fraction: f64,
-            radius: f64,
-            sharpen: bool,
-            max_iterations: usize,
+            goal: RunGoal,
             flag: bool,
             volumes: *const f64,
             volumes_len: usize,
@@ -482,14 +499,11 @@ mod library {
             found_len: usize,
             bits: *mut u64,
             bits_len: usize,
-        ) -> RunTold;
+        ) -> RunReturned;
         pub unsafe fn sokdrib_answer(
             room: usize,
             state: RunState,
-            said: u32,
-            flag: bool,
-            elapsed: u64,
-            allowed: u64,
+            heard: RunHeard,
             energies: *const f64,
             energies_len: usize,
             volumes: *const f64,
@@ -945,10 +959,7 @@ pub fn sokdrib_grey(density: &[f64], free: &[f64], total: f64) -> f64 {
 pub fn sokdrib_open(
     room: usize,
     state: RunState,
-    fraction: f64,
-    radius: f64,
-    sharpen: bool,
-    max_iterations: usize,
+    goal: RunGoal,
     flag: bool,
     volumes: &[f64],
     centroids: &[[f64; 3]],
@@ -968,15 +979,12 @@ pub fn sokdrib_open(
     weight: &mut [f64],
     found: &mut [u32],
     bits: &mut [u64],
-) -> RunTold {
+) -> RunReturned {
     // SAFETY: see above.
     unsafe { library::sokdrib_open(
         room,
         state,
-        fraction,
-        radius,
-        sharpen,
-        max_iterations,
+        goal,
         flag,
         volumes.as_ptr(), volumes.len(),
         centroids.as_ptr(), centroids.len(),
@@ -999,18 +1007,14 @@ pub fn sokdrib_open(
     ) }
 }
 
-/// The solver's answer to the last question: said is 0 where it gave the energies, 1 where it failed, any other number where it stopped; then whether the run
-/// is to stop, and the milliseconds elapsed and allowed. The filter's lists, the design and both densities are those that the last call left. The record that
+/// The solver's answer to the last question: what is heard of it, and the energies. The filter's lists, the design and both densities are those that the last call left. The record that
 /// is told is to be put at its place of the history, which has room for so many records; where the place is past that there is none. free and the
 /// lists after it are for the call's own use. A phase above 2 is refused with 20.
 #[allow(clippy::too_many_arguments)]
 pub fn sokdrib_answer(
     room: usize,
     state: RunState,
-    said: u32,
-    flag: bool,
-    elapsed: u64,
-    allowed: u64,
+    heard: RunHeard,
     energies: &[f64],
     volumes: &[f64],
     passive: &[bool],
@@ -1030,10 +1034,7 @@ pub fn sokdrib_answer(
     unsafe { library::sokdrib_answer(
         room,
         state,
-        said,
-        flag,
-        elapsed,
-        allowed,
+        heard,
         energies.as_ptr(), energies.len(),
         volumes.as_ptr(), volumes.len(),
         passive.as_ptr(), passive.len(),

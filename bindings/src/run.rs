@@ -4,7 +4,7 @@
 //! A state whose phase is above 2 is no run's: both calls refuse it with 20 and leave it and all lists as before.
 use crate::filter::Work;
 use crate::{Refused, ffi};
-pub use ffi::{RunRecord as Iteration, RunState as State};
+pub use ffi::{RunGoal as Goal, RunRecord as Iteration, RunState as State};
 
 /// Why a run stopped.
 #[derive(Clone, Copy, Debug, PartialEq, Eq)]
@@ -27,12 +27,12 @@ pub enum Reply {
     Stop(Stop),
 }
 
-fn reply(told: &ffi::RunTold) -> Result<Reply, Refused> {
-    match told.reply {
-        0 => Err(Refused(told.number as u32)),
+fn reply(returned: &ffi::RunReturned) -> Result<Reply, Refused> {
+    match returned.reply {
+        0 => Err(Refused(returned.number as u32)),
         1 => Ok(Reply::Solid),
-        2 => Ok(Reply::Round(told.number)),
-        _ => Ok(Reply::Stop(match told.number {
+        2 => Ok(Reply::Round(returned.number)),
+        _ => Ok(Reply::Stop(match returned.number {
             0 => Stop::Settled,
             1 => Stop::LevelledOff,
             2 => Stop::Limit,
@@ -60,14 +60,6 @@ pub struct Part<'a> {
     pub mirrors: &'a [[f64; 6]],
 }
 
-#[derive(Clone, Copy, Debug, PartialEq)]
-pub struct Goal {
-    pub fraction: f64,
-    pub radius: f64,
-    pub sharpen: bool,
-    pub max_iterations: usize,
-}
-
 /// The lists of a run: the filter's table, the design, the densities asked for, those of the last record's round, and a record for each round
 /// allowed.
 pub struct Lists<'a> {
@@ -82,16 +74,12 @@ pub struct Lists<'a> {
 
 /// Opens a run on a state with none open. The working lists are those of a filter's build.
 pub fn open(state: &mut State, part: Part<'_>, goal: Goal, flag: bool, lists: Lists<'_>, work: &mut Work) -> Result<Reply, Refused> {
-    let Goal { fraction, radius, sharpen, max_iterations } = goal;
     let Lists { starts, near, coef, design, density, last, history } = lists;
     let Work { cell, order, first, sorted, stamp, weight, found, bits } = work;
-    let told = ffi::sokdrib_open(
+    let returned = ffi::sokdrib_open(
         history.len(),
         *state,
-        fraction,
-        radius,
-        sharpen,
-        max_iterations,
+        goal,
         flag,
         part.volumes,
         part.centroids,
@@ -112,8 +100,8 @@ pub fn open(state: &mut State, part: Part<'_>, goal: Goal, flag: bool, lists: Li
         found,
         bits,
     );
-    *state = told.state;
-    reply(&told)
+    *state = returned.state;
+    reply(&returned)
 }
 
 /// Lists for an answer's own use, of one place an element.
@@ -145,7 +133,8 @@ pub struct Answer<'a> {
 
 /// Takes an answer. Of `part` the volumes and the marks are read, as they were when the run was opened.
 pub fn answer(state: &mut State, answer: Answer<'_>, part: Part<'_>, lists: Lists<'_>, work: &mut Scratch) -> Result<Reply, Refused> {
-    let (said, energies): (u32, &[f64]) = match answer.said {
+    let Answer { said, flag, elapsed, allowed } = answer;
+    let (said, energies): (u32, &[f64]) = match said {
         Said::Gave(energies) => (0, energies),
         Said::Failed => (1, &[]),
         Said::Halted => (2, &[]),
@@ -155,10 +144,7 @@ pub fn answer(state: &mut State, answer: Answer<'_>, part: Part<'_>, lists: List
     let step = ffi::sokdrib_answer(
         history.len(),
         *state,
-        said,
-        answer.flag,
-        answer.elapsed,
-        answer.allowed,
+        ffi::RunHeard { said, flag, elapsed, allowed },
         energies,
         part.volumes,
         part.passive,
@@ -177,6 +163,6 @@ pub fn answer(state: &mut State, answer: Answer<'_>, part: Part<'_>, lists: List
     if let Some(place) = history.get_mut(step.at) {
         *place = step.entry;
     }
-    *state = step.told.state;
-    reply(&step.told)
+    *state = step.returned.state;
+    reply(&step.returned)
 }

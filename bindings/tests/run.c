@@ -17,9 +17,8 @@ enum { WORDS = 1040 };                /* the places that `bits` needs */
 static const char *const STOPS[] = {"Settled", "LevelledOff", "Limit", "Budget", "Stopped"};
 
 typedef struct {
-    double fraction, radius;
-    bool sharpen;
-    size_t max_iterations, elements, planes;
+    SokdribRunGoal goal;
+    size_t elements, planes;
     const double *volumes, (*centroids)[3];
     const bool *passive;
     const double (*mirrors)[6]; /* of each plane a point, then the normal */
@@ -43,7 +42,7 @@ static void *list(size_t n, size_t size) {
 static void print_bits(double x) { printf(" %016" PRIX64, sokdrib_to_bits(x)); }
 
 static void run(const Job *job) {
-    const size_t n = job->elements, room = job->max_iterations;
+    const size_t n = job->elements, room = job->goal.max_iterations;
     /* What the run keeps: the filter's table, the design, the densities asked for, those of the last record's round,
      * the history. */
     uint32_t *starts = list(n + 1, sizeof *starts), *near_;
@@ -60,45 +59,46 @@ static void run(const Job *job) {
 
     /* The opening, on the fresh state. How many entries the filter's table has shows as it is built: where there is no
      * room for them the run is opened again with more. */
-    SokdribRunTold told = {0};
+    SokdribRunReturned returned = {0};
     size_t entries = n;
     for (;; entries *= 2) {
         near_ = list(entries, sizeof *near_);
         coef = list(entries, sizeof *coef);
-        told = sokdrib_open(
-            room, told.state, job->fraction, job->radius, job->sharpen, job->max_iterations, false,
-            job->volumes, n, job->centroids, n, job->passive, n, job->mirrors, job->planes,
+        returned = sokdrib_open(
+            room, returned.state, job->goal, false, job->volumes, n, job->centroids, n, job->passive, n,
+            job->mirrors, job->planes,
             starts, n + 1, near_, entries, coef, entries, design, n, density, n, last, n,
             cell, n, order, n, first, n + 1, sorted, n, stamp, n, weight, n, found, n, bits, WORDS);
-        if (told.reply != REFUSED || told.number != SHORT || entries >= n * n) break;
+        if (returned.reply != REFUSED || returned.number != SHORT || entries >= n * n) break;
         free(near_);
         free(coef);
     }
 
     /* Question and answer until it stops. Nothing asks it to (false), and 0 of 1 milliseconds never run out. */
-    while (told.reply == SOLID || told.reply == ROUND) {
+    const SokdribRunHeard heard = {.said = GAVE, .flag = false, .elapsed = 0, .allowed = 1};
+    while (returned.reply == SOLID || returned.reply == ROUND) {
         solve(job, density, energies);
         SokdribRunStep step = sokdrib_answer(
-            room, told.state, GAVE, false, 0, 1, energies, n, job->volumes, n, job->passive, n,
+            room, returned.state, heard, energies, n, job->volumes, n, job->passive, n,
             starts, n + 1, near_, entries, coef, entries, design, n, density, n, last, n,
             free_, n, slope, n, spare, n, dc, n, dv, n);
         if (step.at < room) history[step.at] = step.entry;
-        told = step.told;
+        returned = step.returned;
     }
 
-    if (told.reply == REFUSED) {
-        printf("refused %zu\n", told.number);
+    if (returned.reply == REFUSED) {
+        printf("refused %zu\n", returned.number);
     } else {
         printf("solid");
-        print_bits(told.state.solid_compliance);
-        for (size_t i = 0; i < told.state.rounds; i++) {
+        print_bits(returned.state.solid_compliance);
+        for (size_t i = 0; i < returned.state.rounds; i++) {
             SokdribRunRecord r = history[i];
             double numbers[] = {r.compliance, r.fraction, r.change, r.sharpness, r.grey};
             printf("\nround %zu", r.number);
             for (size_t k = 0; k < 5; k++) print_bits(numbers[k]);
             printf(" %zu", r.passes);
         }
-        printf("\nstop %s\n", STOPS[told.number]);
+        printf("\nstop %s\n", STOPS[returned.number]);
         for (size_t e = 0; e < n; e++) {
             printf("%zu", e + 1);
             print_bits(last[e]);
@@ -113,7 +113,7 @@ static void run(const Job *job) {
 int main(void) {
     /* Document 01's worked example: two elements far apart, the first held solid. */
     Job worked = {
-        .fraction = 0.75, .radius = 1.0, .sharpen = false, .max_iterations = 1, .elements = 2,
+        .goal = {.fraction = 0.75, .radius = 1.0, .sharpen = false, .max_iterations = 1}, .elements = 2,
         .volumes = (const double[]){1.0, 1.0},
         .centroids = (const double[][3]){{0.0, 0.0, 0.0}, {10.0, 0.0, 0.0}},
         .passive = (const bool[]){true, false},
@@ -123,7 +123,7 @@ int main(void) {
 
     /* Eight elements, symmetric about y = 0, sharpened. */
     Job sharpened = {
-        .fraction = 0.5, .radius = 1.5, .sharpen = true, .max_iterations = 60, .elements = 8, .planes = 1,
+        .goal = {.fraction = 0.5, .radius = 1.5, .sharpen = true, .max_iterations = 60}, .elements = 8, .planes = 1,
         .volumes = (const double[]){1.0, 1.0, 1.25, 1.25, 0.75, 0.75, 1.0, 1.0},
         .centroids = (const double[][3]){{0.5, -0.5, 0.0}, {0.5, 0.5, 0.0}, {1.5, -0.5, 0.0}, {1.5, 0.5, 0.0},
                                          {2.5, -0.5, 0.0}, {2.5, 0.5, 0.0}, {3.5, -0.5, 0.0}, {3.5, 0.5, 0.0}},
@@ -134,7 +134,7 @@ int main(void) {
     run(&sharpened);
 
     /* Half of it is held, so a share of 0.1 has no room: 7. */
-    worked.fraction = 0.1;
+    worked.goal.fraction = 0.1;
     run(&worked);
     return 0;
 }

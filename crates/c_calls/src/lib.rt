@@ -1,18 +1,16 @@
 // The calls of a run over the structs of numbers of `c_numbers`, for `capi`.
-ghost use Rattle.c_numbers.specs.Flat.{saidOf, OpenedAs, AnsweredAs};
+ghost use Rattle.c_numbers.specs.Flat.{goalOf, heardOf, OpenedAs, AnsweredAs};
+use c_numbers::RunGoal;
+use c_numbers::RunHeard;
+use c_numbers::RunReturned;
 use c_numbers::RunState;
 use c_numbers::RunStep;
-use c_numbers::RunTold;
-use topo::Goal;
 
-// `run_open::take`: an opening, the history having room for so many records.
+// `run_open::open_core`: an opening, the history having room for so many records.
 pub fn open(
     room: usize,
     state: RunState,
-    fraction: f64,
-    radius: f64,
-    sharpen: bool,
-    max_iterations: usize,
+    goal: RunGoal,
     flag: bool,
     volumes: &[f64],
     centroids: &[[f64; 3]],
@@ -32,8 +30,8 @@ pub fn open(
     weight: &mut [f64],
     found: &mut [u32],
     bits: &mut [u64],
-) -> RunTold
-    ensures { λ r. ⌜ OpenedAs state (record { centroids = now (centroids .entry); mirrors = now (mirrors .entry); goal = record { fraction = fraction; radius = radius; sharpen = sharpen; «max_iterations» = «max_iterations» }; flag = flag }) room
+) -> RunReturned
+    ensures { λ r. ⌜ OpenedAs state (record { centroids = now (centroids .entry); mirrors = now (mirrors .entry); goal = goalOf goal; flag = flag }) room
         (record { volumes = now (volumes .entry); passive = now (passive .entry); starts = now (starts .entry); near = now (near .entry); coef = now (coef .entry); design = now (design .entry); density = now (density .entry); last = now (last .entry) })
         (record { cell = now (cell .entry); order = now (order .entry); first = now (first .entry); sorted = now (sorted .entry); stamp = now (stamp .entry); weight = now (weight .entry); found = now (found .entry); bits = now (bits .entry) })
         r
@@ -43,16 +41,10 @@ pub fn open(
     if c_numbers::unknown(state) {
         return c_numbers::refused(state);
     }
-    let goal = Goal {
-        fraction,
-        radius,
-        sharpen,
-        max_iterations,
-    };
-    let t = run_open::take(
+    let t = run_open::open_core(
         room,
         c_numbers::state_of(state),
-        goal,
+        c_numbers::goal_of(goal),
         flag,
         volumes,
         centroids,
@@ -73,17 +65,14 @@ pub fn open(
         found,
         bits,
     );
-    c_numbers::told_numbers(t)
+    c_numbers::returned_numbers(t)
 }
 
-// `run_answer::take`: an answer, the history having room for so many records.
+// `run_answer::answer_core`: an answer, the history having room for so many records.
 pub fn answer(
     room: usize,
     state: RunState,
-    said: u32,
-    flag: bool,
-    elapsed: u64,
-    allowed: u64,
+    heard: RunHeard,
     energies: &[f64],
     volumes: &[f64],
     passive: &[bool],
@@ -99,7 +88,7 @@ pub fn answer(
     dc: &mut [f64],
     dv: &mut [f64],
 ) -> RunStep
-    ensures { λ r. ⌜ AnsweredAs state (record { said = saidOf said; energies = now (energies .entry); flag = flag; elapsed = elapsed; allowed = allowed }) room
+    ensures { λ r. ⌜ AnsweredAs state (record { heard = heardOf heard; energies = now (energies .entry) }) room
         (record { volumes = now (volumes .entry); passive = now (passive .entry); starts = now (starts .entry); near = now (near .entry); coef = now (coef .entry); design = now (design .entry); density = now (density .entry); last = now (last .entry) })
         (record { free = now (free .entry); slope = now (slope .entry); spare = now (spare .entry); dc = now (dc .entry); dv = now (dv .entry) })
         r
@@ -109,14 +98,10 @@ pub fn answer(
     if c_numbers::unknown(state) {
         return c_numbers::unrecorded(room, state);
     }
-    let said = c_numbers::said_of(said);
-    let s = run_answer::take(
+    let s = run_answer::answer_core(
         room,
         c_numbers::state_of(state),
-        said,
-        flag,
-        elapsed,
-        allowed,
+        c_numbers::heard_of(heard),
         energies,
         volumes,
         passive,

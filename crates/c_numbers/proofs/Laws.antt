@@ -7,43 +7,52 @@ use Prim.Native.Nat.{ℕ, zero, suc, _≤_}
 use native.Mathlib.Nat.{not-le-of-lt}
 use native.Mathlib.Omega.{arith}
 use Rattle.lists.specs.Lists.{choose}
+use Rattle.topo.specs.declared.Goal.{Goal}
 use Rattle.run_plain.specs.declared.Phase.{Phase}
 use Rattle.run_plain.specs.declared.Phase.the-variants.{Idle, Solid, Round}
-use Rattle.run_plain.specs.declared.Said.{Said}
+use Rattle.run_plain.specs.declared.Heard.{Heard}
+use Rattle.run_plain.specs.declared.Returned.{Returned}
 use Rattle.run_plain.specs.declared.State.{State}
-use Rattle.run_plain.specs.Calls.{Asked, Told as Given}
-use Rattle.run_answer.specs.declared.Told.{Told}
+use Rattle.run_plain.specs.Calls.{Core, Asked, Arguments}
 use Rattle.run_answer.specs.declared.Step.{Step}
-use Rattle.run_answer.specs.Answers.{Core, Work, Answers}
-use Rattle.run_open_checks.specs.Opens.{Work as OpenWork, Opened}
+use Rattle.run_answer.specs.Answers.{Work, CoreAnswered}
+use Rattle.run_open_checks.specs.Opens.{Work as OpenWork, CoreOpened}
 use Rattle.c_numbers.specs.declared.RunState.{RunState}
-use Rattle.c_numbers.specs.declared.RunTold.{RunTold}
+use Rattle.c_numbers.specs.declared.RunReturned.{RunReturned}
 use Rattle.c_numbers.specs.declared.RunStep.{RunStep}
-use Rattle.c_numbers.specs.Flat.{phaseOf, phaseNumber, stateOf, stateNumbers, toldNumbers, stepNumbers, refused20, OpenedAs, AnsweredAs}
+use Rattle.c_numbers.specs.Flat.{phaseOf, phaseNumber, stateOf, stateNumbers, returnedNumbers, stepNumbers, refused20, OpenedAs, AnsweredAs}
 
-pub opened-as : (s : RunState) (t : Bool) → t ≡ ltb 2 (s .phase) → t ≡ false → (s′ : State) → s′ ≡ stateOf s → (g : Asked) (room : ℕ) (l : Core) (w : OpenWork) (told : Told) (r : RunTold) (o : Core) (w′ : OpenWork) → r ≡ toldNumbers told → Opened s′ g room l w told o w′ → OpenedAs s g room l w r o w′
-opened-as s t q f s′ e g room l w told r o w′ n h =
+pub opened-as : (s : RunState) (t : Bool) → t ≡ ltb 2 (s .phase) → t ≡ false → (s′ : State) → s′ ≡ stateOf s → (given : Goal → Asked) (goal goal′ : Goal) → goal ≡ goal′
+    → (room : ℕ) (l : Core) (w : OpenWork) (returned : Returned) (r : RunReturned) (o : Core) (w′ : OpenWork) → r ≡ returnedNumbers returned → CoreOpened s′ (given goal) room l w returned o w′
+    → OpenedAs s (given goal′) room l w r o w′
+opened-as s t q f s′ e given goal goal′ d room l w returned r o w′ n h =
     record {
-      known = λ _. record { told = told; numbers = n; opens = subst (λ (x : State). Opened x g room l w told o w′) e h };
+      known = λ _. record {
+        returned = returned;
+        numbers = n;
+        opens = subst (λ (x : Goal). CoreOpened (stateOf s) (given x) room l w returned o w′) d (subst (λ (x : State). CoreOpened x (given goal) room l w returned o w′) e h);
+      };
       unknown = λ p. absurd (not-le-of-lt p (ltb-false 2 _ (sym q ∙ f)));
     }
 
-pub answered-as : (s : RunState) (t : Bool) → t ≡ ltb 2 (s .phase) → t ≡ false → (s′ : State) → s′ ≡ stateOf s → (given : Said → Given) (said said′ : Said) → said ≡ said′ → (room : ℕ) (l : Core) (w : Work) (step : Step) (r : RunStep) (o : Core) (w′ : Work) → r ≡ stepNumbers step → Answers s′ (given said) room l w step o w′ → AnsweredAs s (given said′) room l w r o w′
-answered-as s t q f s′ e given said said′ d room l w step r o w′ n h =
+pub answered-as : (s : RunState) (t : Bool) → t ≡ ltb 2 (s .phase) → t ≡ false → (s′ : State) → s′ ≡ stateOf s → (given : Heard → Arguments) (heard heard′ : Heard) → heard ≡ heard′
+    → (room : ℕ) (l : Core) (w : Work) (step : Step) (r : RunStep) (o : Core) (w′ : Work) → r ≡ stepNumbers step → CoreAnswered s′ (given heard) room l w step o w′
+    → AnsweredAs s (given heard′) room l w r o w′
+answered-as s t q f s′ e given heard heard′ d room l w step r o w′ n h =
     record {
       known = λ _. record {
         step = step;
         numbers = n;
-        answers = subst (λ (x : Said). Answers (stateOf s) (given x) room l w step o w′) d (subst (λ (x : State). Answers x (given said) room l w step o w′) e h);
+        answers = subst (λ (x : Heard). CoreAnswered (stateOf s) (given x) room l w step o w′) d (subst (λ (x : State). CoreAnswered x (given heard) room l w step o w′) e h);
       };
       unknown = λ p. absurd (not-le-of-lt p (ltb-false 2 _ (sym q ∙ f)));
     }
 
 -- a phase that is no run's
-pub not-opened : (s : RunState) (t : Bool) → t ≡ ltb 2 (s .phase) → t ≡ true → (g : Asked) (room : ℕ) (l : Core) (w : OpenWork) (r : RunTold) → r ≡ refused20 s → OpenedAs s g room l w r l w
+pub not-opened : (s : RunState) (t : Bool) → t ≡ ltb 2 (s .phase) → t ≡ true → (g : Asked) (room : ℕ) (l : Core) (w : OpenWork) (r : RunReturned) → r ≡ refused20 s → OpenedAs s g room l w r l w
 not-opened s t q f g room l w r e = record { known = λ p. absurd (not-le-of-lt (ltb-true 2 _ (sym q ∙ f)) p); unknown = λ _. (e, refl, refl) }
 
-pub not-answered : (s : RunState) (t : Bool) → t ≡ ltb 2 (s .phase) → t ≡ true → (a : Given) (room : ℕ) (l : Core) (w : Work) (r : RunStep) → (r .told ≡ refused20 s) × (r .at ≡ room) → AnsweredAs s a room l w r l w
+pub not-answered : (s : RunState) (t : Bool) → t ≡ ltb 2 (s .phase) → t ≡ true → (a : Arguments) (room : ℕ) (l : Core) (w : Work) (r : RunStep) → (r .returned ≡ refused20 s) × (r .at ≡ room) → AnsweredAs s a room l w r l w
 not-answered s t q f a room l w r e = record { known = λ p. absurd (not-le-of-lt (ltb-true 2 _ (sym q ∙ f)) p); unknown = λ _. (e .0, e .1, refl, refl) }
 
 -- ---- a state's numbers and what they stand for
@@ -71,7 +80,7 @@ pub state-passes : (s : State) → (stateNumbers s .phase ≤ 2) × (stateOf (st
 unfolding stateOf stateNumbers
 state-passes s = (
   number-passes (s .phase),
-  λ i. record { phase = phase-back (s .phase) i; elements = s .elements; entries = s .entries; fraction = s .fraction; sharpen = s .sharpen; «max_iterations» = s .«max_iterations»; rounds = s .rounds; stage = s .stage; «at_stage» = s .«at_stage»; steady = s .steady; «solid_compliance» = s .«solid_compliance»; compliance = s .compliance },
+  λ i. record { phase = phase-back (s .phase) i; setting = s .setting; progress = s .progress; compliances = s .compliances },
 )
 
 -- "Kept": a state that passes and is given back is as before

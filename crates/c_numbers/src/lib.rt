@@ -3,11 +3,16 @@ ghost use mathlib.Core.Path.{_≡_};
 ghost use lib.Dec.{ltb};
 ghost use Rattle.c_numbers.specs.Flat as Flat;
 use run_answer::Step;
-use run_answer::Told;
+use run_plain::Compliances;
+use run_plain::Heard;
 use run_plain::Phase;
+use run_plain::Progress;
 use run_plain::Reply;
+use run_plain::Returned;
 use run_plain::Said;
+use run_plain::Setting;
 use run_plain::State;
+use topo::Goal;
 use topo::Iteration;
 use topo::Stop;
 
@@ -28,10 +33,29 @@ pub struct RunState {
     pub compliance: f64,
 }
 
+// What a run is to reach: the share of the volume, the filter's radius, whether it sharpens, and the rounds allowed.
+#[repr(C)]
+pub struct RunGoal {
+    pub fraction: f64,
+    pub radius: f64,
+    pub sharpen: bool,
+    pub max_iterations: usize,
+}
+
+// What an answer says beside the energies. Said 0: the solver gave them. 1: it failed. Any other number: it stopped. Then whether the run is to stop, and the
+// milliseconds elapsed and allowed.
+#[repr(C)]
+pub struct RunHeard {
+    pub said: u32,
+    pub flag: bool,
+    pub elapsed: u64,
+    pub allowed: u64,
+}
+
 // What a call returns. Reply 0: a refusal and its number. 1: the solid part is asked for. 2: a round is, and its number. 3: a stop, and its number: 0
 // Settled, 1 LevelledOff, 2 Limit, 3 Budget, 4 Stopped.
 #[repr(C)]
-pub struct RunTold {
+pub struct RunReturned {
     pub state: RunState,
     pub reply: u32,
     pub number: usize,
@@ -52,7 +76,7 @@ pub struct RunRecord {
 // What an answer returns, with the record that is to be put at a place of the history: past its end where there is none.
 #[repr(C)]
 pub struct RunStep {
-    pub told: RunTold,
+    pub returned: RunReturned,
     pub at: usize,
     pub entry: RunRecord,
 }
@@ -69,7 +93,7 @@ fn phase_of(number: u32) -> Phase
     Phase::Round
 }
 
-pub fn said_of(number: u32) -> Said
+fn said_of(number: u32) -> Said
     ensures { λ r. ⌜ r ≡ Flat.saidOf number ⌝ }
 {
     if number == 0 {
@@ -86,17 +110,45 @@ pub fn state_of(s: RunState) -> State
 {
     State {
         phase: phase_of(s.phase),
-        elements: s.elements,
-        entries: s.entries,
-        fraction: s.fraction,
-        sharpen: s.sharpen,
-        max_iterations: s.max_iterations,
-        rounds: s.rounds,
-        stage: s.stage,
-        at_stage: s.at_stage,
-        steady: s.steady,
-        solid_compliance: s.solid_compliance,
-        compliance: s.compliance,
+        setting: Setting {
+            elements: s.elements,
+            entries: s.entries,
+            fraction: s.fraction,
+            sharpen: s.sharpen,
+            max_iterations: s.max_iterations,
+        },
+        progress: Progress {
+            rounds: s.rounds,
+            stage: s.stage,
+            at_stage: s.at_stage,
+            steady: s.steady,
+        },
+        compliances: Compliances {
+            solid: s.solid_compliance,
+            last: s.compliance,
+        },
+    }
+}
+
+pub fn goal_of(g: RunGoal) -> Goal
+    ensures { λ r. ⌜ r ≡ Flat.goalOf g ⌝ }
+{
+    Goal {
+        fraction: g.fraction,
+        radius: g.radius,
+        sharpen: g.sharpen,
+        max_iterations: g.max_iterations,
+    }
+}
+
+pub fn heard_of(h: RunHeard) -> Heard
+    ensures { λ r. ⌜ r ≡ Flat.heardOf h ⌝ }
+{
+    Heard {
+        said: said_of(h.said),
+        flag: h.flag,
+        elapsed: h.elapsed,
+        allowed: h.allowed,
     }
 }
 
@@ -116,17 +168,17 @@ fn state_numbers(s: State) -> RunState
     let p = s.phase;
     RunState {
         phase: phase_number(p),
-        elements: s.elements,
-        entries: s.entries,
-        fraction: s.fraction,
-        sharpen: s.sharpen,
-        max_iterations: s.max_iterations,
-        rounds: s.rounds,
-        stage: s.stage,
-        at_stage: s.at_stage,
-        steady: s.steady,
-        solid_compliance: s.solid_compliance,
-        compliance: s.compliance,
+        elements: s.setting.elements,
+        entries: s.setting.entries,
+        fraction: s.setting.fraction,
+        sharpen: s.setting.sharpen,
+        max_iterations: s.setting.max_iterations,
+        rounds: s.progress.rounds,
+        stage: s.progress.stage,
+        at_stage: s.progress.at_stage,
+        steady: s.progress.steady,
+        solid_compliance: s.compliances.solid,
+        compliance: s.compliances.last,
     }
 }
 
@@ -164,11 +216,11 @@ fn reply_number(r: Reply) -> usize
     }
 }
 
-pub fn told_numbers(t: Told) -> RunTold
-    ensures { λ r. ⌜ r ≡ Flat.toldNumbers t ⌝ }
+pub fn returned_numbers(t: Returned) -> RunReturned
+    ensures { λ r. ⌜ r ≡ Flat.returnedNumbers t ⌝ }
 {
     let reply = t.reply;
-    RunTold {
+    RunReturned {
         state: state_numbers(t.state),
         reply: reply_kind(reply),
         number: reply_number(reply),
@@ -193,7 +245,7 @@ pub fn step_numbers(s: Step) -> RunStep
     ensures { λ r. ⌜ r ≡ Flat.stepNumbers s ⌝ }
 {
     RunStep {
-        told: told_numbers(s.told),
+        returned: returned_numbers(s.returned),
         at: s.at,
         entry: record_numbers(s.entry),
     }
@@ -207,10 +259,10 @@ pub fn unknown(s: RunState) -> bool
 }
 
 // Then 20, and the state as it came.
-pub fn refused(s: RunState) -> RunTold
+pub fn refused(s: RunState) -> RunReturned
     ensures { λ r. ⌜ r ≡ Flat.refused20 s ⌝ }
 {
-    RunTold {
+    RunReturned {
         state: s,
         reply: 0,
         number: 20,
@@ -219,10 +271,10 @@ pub fn refused(s: RunState) -> RunTold
 
 // The same for an answer, which makes no record: `room` is past the history's end.
 pub fn unrecorded(room: usize, s: RunState) -> RunStep
-    ensures { λ r. ⌜ (r .told ≡ Flat.refused20 s) × (r .at ≡ room) ⌝ }
+    ensures { λ r. ⌜ (r .returned ≡ Flat.refused20 s) × (r .at ≡ room) ⌝ }
 {
     RunStep {
-        told: refused(s),
+        returned: refused(s),
         at: room,
         entry: RunRecord {
             number: 0,

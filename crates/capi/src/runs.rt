@@ -1,8 +1,10 @@
 // A run: opened, and then answered question by question.
-ghost use Rattle.c_numbers.specs.Flat.{saidOf, OpenedAs, AnsweredAs};
+ghost use Rattle.c_numbers.specs.Flat.{goalOf, heardOf, OpenedAs, AnsweredAs};
+use c_numbers::RunGoal;
+use c_numbers::RunHeard;
+use c_numbers::RunReturned;
 use c_numbers::RunState;
 use c_numbers::RunStep;
-use c_numbers::RunTold;
 
 // Opens a run on a state with none open: the solid part is asked for, or the refusal's number is told. room is how many records the history has room
 // for; the opening writes none. 1 to 12, 20, and 14 before the first row, leave all lists as before; 13 and 14 at a row leave the filter's lists and the
@@ -12,10 +14,7 @@ use c_numbers::RunTold;
 pub extern "C" fn sokdrib_open(
     room: usize,
     state: RunState,
-    fraction: f64,
-    radius: f64,
-    sharpen: bool,
-    max_iterations: usize,
+    goal: RunGoal,
     flag: bool,
     volumes: &[f64],
     centroids: &[[f64; 3]],
@@ -35,8 +34,8 @@ pub extern "C" fn sokdrib_open(
     weight: &mut [f64],
     found: &mut [u32],
     bits: &mut [u64],
-) -> RunTold
-    ensures { λ r. ⌜ OpenedAs state (record { centroids = now (centroids .entry); mirrors = now (mirrors .entry); goal = record { fraction = fraction; radius = radius; sharpen = sharpen; «max_iterations» = «max_iterations» }; flag = flag }) room
+) -> RunReturned
+    ensures { λ r. ⌜ OpenedAs state (record { centroids = now (centroids .entry); mirrors = now (mirrors .entry); goal = goalOf goal; flag = flag }) room
         (record { volumes = now (volumes .entry); passive = now (passive .entry); starts = now (starts .entry); near = now (near .entry); coef = now (coef .entry); design = now (design .entry); density = now (density .entry); last = now (last .entry) })
         (record { cell = now (cell .entry); order = now (order .entry); first = now (first .entry); sorted = now (sorted .entry); stamp = now (stamp .entry); weight = now (weight .entry); found = now (found .entry); bits = now (bits .entry) })
         r
@@ -46,10 +45,7 @@ pub extern "C" fn sokdrib_open(
     c_calls::open(
         room,
         state,
-        fraction,
-        radius,
-        sharpen,
-        max_iterations,
+        goal,
         flag,
         volumes,
         centroids,
@@ -72,18 +68,14 @@ pub extern "C" fn sokdrib_open(
     )
 }
 
-// The solver's answer to the last question: said is 0 where it gave the energies, 1 where it failed, any other number where it stopped; then whether the run
-// is to stop, and the milliseconds elapsed and allowed. The filter's lists, the design and both densities are those that the last call left. The record that
+// The solver's answer to the last question: what is heard of it, and the energies. The filter's lists, the design and both densities are those that the last call left. The record that
 // is told is to be put at its place of the history, which has room for so many records; where the place is past that there is none. free and the
 // lists after it are for the call's own use. A phase above 2 is refused with 20.
 #[no_mangle]
 pub extern "C" fn sokdrib_answer(
     room: usize,
     state: RunState,
-    said: u32,
-    flag: bool,
-    elapsed: u64,
-    allowed: u64,
+    heard: RunHeard,
     energies: &[f64],
     volumes: &[f64],
     passive: &[bool],
@@ -99,7 +91,7 @@ pub extern "C" fn sokdrib_answer(
     dc: &mut [f64],
     dv: &mut [f64],
 ) -> RunStep
-    ensures { λ r. ⌜ AnsweredAs state (record { said = saidOf said; energies = now (energies .entry); flag = flag; elapsed = elapsed; allowed = allowed }) room
+    ensures { λ r. ⌜ AnsweredAs state (record { heard = heardOf heard; energies = now (energies .entry) }) room
         (record { volumes = now (volumes .entry); passive = now (passive .entry); starts = now (starts .entry); near = now (near .entry); coef = now (coef .entry); design = now (design .entry); density = now (density .entry); last = now (last .entry) })
         (record { free = now (free .entry); slope = now (slope .entry); spare = now (spare .entry); dc = now (dc .entry); dv = now (dv .entry) })
         r
@@ -109,10 +101,7 @@ pub extern "C" fn sokdrib_answer(
     c_calls::answer(
         room,
         state,
-        said,
-        flag,
-        elapsed,
-        allowed,
+        heard,
         energies,
         volumes,
         passive,

@@ -88,11 +88,8 @@ openingFrom j l =
 unfoldable pub solvedBy : List Float → List Float → Answer
 solvedBy weights densities =
     record {
-      said = Gave;
+      heard = record { said = Gave; flag = false; elapsed = 0; allowed = 1 };
       energies = energiesOf weights densities (length weights);
-      flag = false;
-      elapsed = 0;
-      allowed = 1;
       lent = room (256 ∷ 256 ∷ 256 ∷ 256 ∷ 256 ∷ []);
     }
 

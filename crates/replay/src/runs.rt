@@ -8,10 +8,14 @@ use replay_sample::read::points;
 use replay_sample::words::number;
 use replay_sample::words::same;
 use replay_sample::words::word;
-use run_answer::Told;
+use run_plain::Compliances;
+use run_plain::Heard;
 use run_plain::Phase;
+use run_plain::Progress;
 use run_plain::Reply;
+use run_plain::Returned;
 use run_plain::Said;
+use run_plain::Setting;
 use run_plain::State;
 use topo::Goal;
 use topo::Iteration;
@@ -22,9 +26,9 @@ const ROOM: usize = 120;
 
 const TURNS: u64 = 122;
 
-// What the last call gave, whether a question was recorded then, and whether all was as recorded so far.
-struct Progress {
-    told: Told,
+// What the last call returned, whether a question was recorded then, and whether all was as recorded so far.
+struct Replayed {
+    returned: Returned,
     asked: bool,
     same: bool,
 }
@@ -33,17 +37,23 @@ struct Progress {
 fn fresh() -> State {
     State {
         phase: Phase::Idle,
-        elements: 0,
-        entries: 0,
-        fraction: 0.0,
-        sharpen: false,
-        max_iterations: 0,
-        rounds: 0,
-        stage: 0,
-        at_stage: 0,
-        steady: 0,
-        solid_compliance: 0.0,
-        compliance: 0.0,
+        setting: Setting {
+            elements: 0,
+            entries: 0,
+            fraction: 0.0,
+            sharpen: false,
+            max_iterations: 0,
+        },
+        progress: Progress {
+            rounds: 0,
+            stage: 0,
+            at_stage: 0,
+            steady: 0,
+        },
+        compliances: Compliances {
+            solid: 0.0,
+            last: 0.0,
+        },
     }
 }
 
@@ -75,12 +85,12 @@ fn is_reply(reply: Reply, kind: u64, n: u64) -> bool {
     }
 }
 
-fn replied(told: Told, so_far: bool) -> Progress {
+fn replied(returned: Returned, so_far: bool) -> Replayed {
     let kind = word();
     let n = word();
-    let reply = told.reply;
-    Progress {
-        told,
+    let reply = returned.reply;
+    Replayed {
+        returned,
         asked: (kind == 1) | (kind == 2),
         same: so_far & is_reply(reply, kind, n),
     }
@@ -132,7 +142,7 @@ fn opened(
     design: &mut [f64],
     density: &mut [f64],
     last: &[f64],
-) -> Told {
+) -> Returned {
     let mut cell = [[0u64; 3]; 8];
     let mut order = [0u32; 8];
     let mut first = [0u32; 9];
@@ -141,7 +151,7 @@ fn opened(
     let mut weight = [0.0; 8];
     let mut found = [0u32; 8];
     let mut bits = [0u64; 1040];
-    run_open::take(
+    run_open::open_core(
         ROOM,
         fresh(),
         goal,
@@ -169,7 +179,7 @@ fn opened(
 
 // The next question and its answer, if one was recorded.
 fn turn(
-    t: Progress,
+    t: Replayed,
     volumes: &[f64],
     passive: &[bool],
     starts: &[u32],
@@ -178,7 +188,7 @@ fn turn(
     design: &mut [f64],
     density: &mut [f64],
     last: &mut [f64],
-) -> Progress {
+) -> Replayed {
     let asked = t.asked;
     if !asked {
         return t;
@@ -188,6 +198,12 @@ fn turn(
     let flag = word() != 0;
     let elapsed = word();
     let allowed = word();
+    let heard = Heard {
+        said,
+        flag,
+        elapsed,
+        allowed,
+    };
     let mut energies = [0.0; 8];
     let mut free = [0.0; 8];
     let mut slope = [0.0; 8];
@@ -195,14 +211,11 @@ fn turn(
     let mut dc = [0.0; 8];
     let mut dv = [0.0; 8];
     floats(&mut energies);
-    let told = t.told;
-    let s = run_answer::take(
+    let returned = t.returned;
+    let s = run_answer::answer_core(
         ROOM,
-        told.state,
-        said,
-        flag,
-        elapsed,
-        allowed,
+        returned.state,
+        heard,
         &energies,
         volumes,
         passive,
@@ -220,17 +233,17 @@ fn turn(
     );
     let entry = s.entry;
     let record = is_record(s.at, entry);
-    let next = s.told;
+    let next = s.returned;
     replied(next, t.same & levels & record)
 }
 
 // The end of a run that stopped.
-fn is_end(t: Progress, last: &[f64]) -> bool {
+fn is_end(t: Replayed, last: &[f64]) -> bool {
     let stopped = word() != 0;
     if stopped {
-        let told = t.told;
-        let state = told.state;
-        let work = same(state.solid_compliance, number());
+        let returned = t.returned;
+        let state = returned.state;
+        let work = same(state.compliances.solid, number());
         return t.same & work & are(last);
     }
     t.same
@@ -249,7 +262,7 @@ fn run(
     let mut design = [0.0; 8];
     let mut density = [0.0; 8];
     let mut last = [0.0; 8];
-    let told = opened(
+    let returned = opened(
         goal,
         volumes,
         centroids,
@@ -262,7 +275,7 @@ fn run(
         &mut density,
         &last,
     );
-    let mut t = replied(told, true);
+    let mut t = replied(returned, true);
     for _i in 0..TURNS {
         t = turn(
             t,

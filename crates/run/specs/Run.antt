@@ -4,17 +4,17 @@ use mathlib.Core.List.{List}
 use lib.ListN.{length}
 use Rattle.topo.specs.declared.Iteration.{Iteration}
 use Rattle.run_plain.specs.declared.State.{State}
-use Rattle.run_plain.specs.Calls.{Asked, Told, Result, openOf, answerOf}
-use Rattle.run_answer.specs.declared.Told.{Told as Gives}
-use Rattle.run_answer.specs.Answers.{Core, Work, listsOf, lengthsOf, verdictIn, worked}
+use Rattle.run_plain.specs.declared.Returned.{Returned}
+use Rattle.run_plain.specs.Calls.{Core, Asked, Arguments, Result, listsOf, openOf, answerOf}
+use Rattle.run_answer.specs.Answers.{Work, lengthsOf, verdictIn, worked}
 use Rattle.run_open_checks.specs.Opens.{Work as OpenWork, lengthsOf as openLengths, entryIn, Left}
 
 -- an opening: the result and every list are those of `openOf`; `work` says what is left in the working lists
-pub record Opened (s : State) (g : Asked) (l : Core) (w : OpenWork) (h : List Iteration) (r : Gives) (o : Core) (w′ : OpenWork) (h′ : List Iteration) : Type 0 where
+pub record Opened (s : State) (g : Asked) (l : Core) (w : OpenWork) (h : List Iteration) (r : Returned) (o : Core) (w′ : OpenWork) (h′ : List Iteration) : Type 0 where
   pub same : _≡_ {A = Result} (record { state = r .state; reply = r .reply; lists = listsOf o h′ }) (openOf s g (openLengths w) (listsOf l h))
   pub work : Left (length (l .volumes)) w w′ (entryIn s g (length h) l w)
 
 -- an answer: the result and every list are those of `answerOf`; `work` says what is free in the working lists
-pub record Answered (s : State) (a : Told) (l : Core) (w : Work) (h : List Iteration) (r : Gives) (o : Core) (w′ : Work) (h′ : List Iteration) : Type 0 where
+pub record Answered (s : State) (a : Arguments) (l : Core) (w : Work) (h : List Iteration) (r : Returned) (o : Core) (w′ : Work) (h′ : List Iteration) : Type 0 where
   pub same : _≡_ {A = Result} (record { state = r .state; reply = r .reply; lists = listsOf o h′ }) (answerOf s a (lengthsOf w) (listsOf l h))
-  pub work : worked (s .elements) w w′ (verdictIn s a (length h) l w)
+  pub work : worked (s .setting .elements) w w′ (verdictIn s a (length h) l w)

@@ -1,8 +1,8 @@
 // The loop of `optimize` as questions and answers: a run is opened, and then answered question by question. Each call states its outcome for
 // every input.
 ghost use Rattle.run.specs.Run.{Opened, Answered};
-use run_answer::Told;
-use run_plain::Said;
+use run_plain::Heard;
+use run_plain::Returned;
 use run_plain::State;
 use topo::Goal;
 use topo::Iteration;
@@ -33,7 +33,7 @@ pub fn open(
     weight: &mut [f64],
     found: &mut [u32],
     bits: &mut [u64],
-) -> Told
+) -> Returned
     ensures { λ r. ⌜ Opened state (record { centroids = now (centroids .entry); mirrors = now (mirrors .entry); goal = goal; flag = flag })
         (record { volumes = now (volumes .entry); passive = now (passive .entry); starts = now (starts .entry); near = now (near .entry); coef = now (coef .entry); design = now (design .entry); density = now (density .entry); last = now (last .entry) })
         (record { cell = now (cell .entry); order = now (order .entry); first = now (first .entry); sorted = now (sorted .entry); stamp = now (stamp .entry); weight = now (weight .entry); found = now (found .entry); bits = now (bits .entry) })
@@ -43,7 +43,7 @@ pub fn open(
         (record { cell = now (cell .exit); order = now (order .exit); first = now (first .exit); sorted = now (sorted .exit); stamp = now (stamp .exit); weight = now (weight .exit); found = now (found .exit); bits = now (bits .exit) })
         (now (history .exit)) ⌝ }
 {
-    run_open::take(
+    run_open::open_core(
         history.len(),
         state,
         goal,
@@ -69,15 +69,11 @@ pub fn open(
     )
 }
 
-// The solver's answer to the last question: energies, one an element, or that it failed or stopped; whether the run is to stop; the milliseconds
-// elapsed and allowed. The filter's lists, the design and both densities are those that the last call left. The last five lists are for the call's
+// The solver's answer to the last question: what is heard of it, and the energies, one an element. The filter's lists, the design and both densities are those that the last call left. The last five lists are for the call's
 // own use.
 pub fn answer(
     state: State,
-    said: Said,
-    flag: bool,
-    elapsed: u64,
-    allowed: u64,
+    heard: Heard,
     energies: &[f64],
     volumes: &[f64],
     passive: &[bool],
@@ -93,8 +89,8 @@ pub fn answer(
     spare: &mut [f64],
     dc: &mut [f64],
     dv: &mut [f64],
-) -> Told
-    ensures { λ r. ⌜ Answered state (record { said = said; energies = now (energies .entry); flag = flag; elapsed = elapsed; allowed = allowed })
+) -> Returned
+    ensures { λ r. ⌜ Answered state (record { heard = heard; energies = now (energies .entry) })
         (record { volumes = now (volumes .entry); passive = now (passive .entry); starts = now (starts .entry); near = now (near .entry); coef = now (coef .entry); design = now (design .entry); density = now (density .entry); last = now (last .entry) })
         (record { free = now (free .entry); slope = now (slope .entry); spare = now (spare .entry); dc = now (dc .entry); dv = now (dv .entry) })
         (now (history .entry))
@@ -103,13 +99,10 @@ pub fn answer(
         (record { free = now (free .exit); slope = now (slope .exit); spare = now (spare .exit); dc = now (dc .exit); dv = now (dv .exit) })
         (now (history .exit)) ⌝ }
 {
-    let s = run_answer::take(
+    let s = run_answer::answer_core(
         history.len(),
         state,
-        said,
-        flag,
-        elapsed,
-        allowed,
+        heard,
         energies,
         volumes,
         passive,
@@ -126,5 +119,5 @@ pub fn answer(
         dv,
     );
     run_answer::note(history, s.at, s.entry);
-    s.told
+    s.returned
 }

@@ -1,13 +1,9 @@
 // Lists that are lent longer than needed: the round's calls on the needed places.
 ghost use mathlib.Core.Path.{_≡_};
-ghost use Prim.Native.Nat.{suc, _<_};
-ghost use lib.ListN.{take};
-ghost use Rattle.lists.specs.Lists.{choose, overlay};
-ghost use Rattle.oc_seen.specs.Seen.{seenDensity};
-ghost use Rattle.oc_seen.specs.declared.Sharpness.the-variants.{Off, At};
-ghost use Rattle.run_plain.specs.Formulas.{sharpness};
-ghost use Rattle.run_plain.specs.Calls.{steepAt};
-ghost use Rattle.run_answer.specs.Answers.{Asks, Enough, Scratched, Solved};
+ghost use Prim.Native.Nat.{_<_};
+ghost use Rattle.lists.specs.Lists.{overlay};
+ghost use Rattle.run_answer.specs.Answers.{Scratched};
+ghost use Rattle.run_answer.specs.Steps.{Asks, Enough, questionAt, Solved};
 use run_plain::State;
 use topo::Iteration;
 
@@ -24,13 +20,13 @@ pub fn ask(
     spare: &mut [f64],
 )
     requires { ⌜ Asks state (now passive) (now starts) (now near) (now coef) (now design) (now density) (now spare) ⌝ }
-    ensures { λ _. ⌜ (now (density .exit) ≡ overlay (seenDensity (choose (state .sharpen) (At (sharpness (steepAt stage))) Off) (take (suc (state .elements)) (now (starts .entry))) (take (state .entries) (now (near .entry))) (take (state .entries) (now (coef .entry))) (take (state .elements) (now (passive .entry))) (take (state .elements) (now (design .entry)))) (now (density .entry)))
-        × Scratched (state .elements) (now (spare .entry)) (now (spare .exit)) ⌝ }
+    ensures { λ _. ⌜ (now (density .exit) ≡ overlay (questionAt state stage (now (passive .entry)) (now (starts .entry)) (now (near .entry)) (now (coef .entry)) (now (design .entry))) (now (density .entry)))
+        × Scratched (state .setting .elements) (now (spare .entry)) (now (spare .exit)) ⌝ }
 {
-    let n = state.elements;
-    let e = state.entries;
+    let n = state.setting.elements;
+    let e = state.setting.entries;
     run_round::ask(
-        state.sharpen,
+        state.setting.sharpen,
         stage,
         &starts[..n + 1usize],
         &near[..e],
@@ -61,18 +57,24 @@ pub fn solve(
     dc: &mut [f64],
     dv: &mut [f64],
 ) -> Iteration
-    requires { ⌜ Enough state (now energies) (record { volumes = now volumes; passive = now passive; starts = now starts; near = now near; coef = now coef; design = now design; density = now density; last = now last }) (record { free = now free; slope = now slope; spare = now spare; dc = now dc; dv = now dv }) ⌝ }
-    requires { ⌜ (state .elements < 65536) × (state .rounds < state .«max_iterations») ⌝ }
-    ensures { λ r. ⌜ Solved state (now (energies .entry)) (record { volumes = now (volumes .entry); passive = now (passive .entry); starts = now (starts .entry); near = now (near .entry); coef = now (coef .entry); design = now (design .entry); density = now (density .entry); last = now (last .entry) }) (record { free = now (free .entry); slope = now (slope .entry); spare = now (spare .entry); dc = now (dc .entry); dv = now (dv .entry) }) r (now (design .exit)) (now (last .exit)) (record { free = now (free .exit); slope = now (slope .exit); spare = now (spare .exit); dc = now (dc .exit); dv = now (dv .exit) }) ⌝ }
+    requires { ⌜ Enough state (now energies)
+        (record { volumes = now volumes; passive = now passive; starts = now starts; near = now near; coef = now coef; design = now design; density = now density; last = now last })
+        (record { free = now free; slope = now slope; spare = now spare; dc = now dc; dv = now dv }) ⌝ }
+    requires { ⌜ (state .setting .elements < 65536) × (state .progress .rounds < state .setting .«max_iterations») ⌝ }
+    ensures { λ r. ⌜ Solved state (now (energies .entry))
+        (record { volumes = now (volumes .entry); passive = now (passive .entry); starts = now (starts .entry); near = now (near .entry); coef = now (coef .entry); design = now (design .entry); density = now (density .entry); last = now (last .entry) })
+        (record { free = now (free .entry); slope = now (slope .entry); spare = now (spare .entry); dc = now (dc .entry); dv = now (dv .entry) })
+        r (now (design .exit)) (now (last .exit))
+        (record { free = now (free .exit); slope = now (slope .exit); spare = now (spare .exit); dc = now (dc .exit); dv = now (dv .exit) }) ⌝ }
 {
-    let n = state.elements;
-    let e = state.entries;
+    let n = state.setting.elements;
+    let e = state.setting.entries;
     update_design::copy(&density[..n], &mut last[..n]);
     run_round::solve(
-        state.rounds + 1usize,
-        state.stage,
-        state.fraction,
-        state.sharpen,
+        state.progress.rounds + 1usize,
+        state.progress.stage,
+        state.setting.fraction,
+        state.setting.sharpen,
         energies,
         &volumes[..n],
         &passive[..n],

@@ -3,24 +3,21 @@ mod lent;
 
 ghost use mathlib.Core.Path.{_≡_};
 ghost use lib.ListN.{set};
-ghost use Rattle.run_answer.specs.Answers.{Answers};
+ghost use Rattle.run_verdict.specs.Fit.{Fit};
+ghost use Rattle.run_answer.specs.Answers.{CoreAnswered};
+ghost use Rattle.run_answer.specs.Steps.{Asks, Enough, Begun, Followed};
 use run_plain::Course;
+use run_plain::Heard;
 use run_plain::Reply;
-use run_plain::Said;
+use run_plain::Returned;
 use run_plain::State;
 use run_plain::Verdict;
 use topo::Iteration;
 use topo::Stop;
 
-// What an answer gives its caller.
-pub struct Told {
-    pub state: State,
-    pub reply: Reply,
-}
-
-// The same, with a record and its place in the history: past the end where there is none to make.
+// What an answer returns, with a record and its place in the history: past the end where there is none to make.
 pub struct Step {
-    pub told: Told,
+    pub returned: Returned,
     pub at: usize,
     pub entry: Iteration,
 }
@@ -39,23 +36,52 @@ fn no_entry() -> Iteration {
 
 // An answer that makes no record. `room` is past the history's end.
 fn unrecorded(room: usize, state: State, reply: Reply) -> Step
-    ensures { λ r. ⌜ (r .told .state ≡ state) × (r .told .reply ≡ reply) × (r .at ≡ room) ⌝ }
+    ensures { λ r. ⌜ (r .returned .state ≡ state) × (r .returned .reply ≡ reply) × (r .at ≡ room) ⌝ }
 {
     Step {
-        told: Told { state, reply },
+        returned: Returned { state, reply },
         at: room,
         entry: no_entry(),
     }
 }
 
-// An answer, the history having room for so many records. The last five lists are for the call's own use.
-pub fn take(
+// The solid part is solved: round 1 is asked for. `room` is past the history's end.
+fn begins(
     room: usize,
     state: State,
-    said: Said,
-    flag: bool,
-    elapsed: u64,
-    allowed: u64,
+    energies: &[f64],
+    passive: &[bool],
+    starts: &[u32],
+    near: &[u32],
+    coef: &[f64],
+    design: &[f64],
+    density: &mut [f64],
+    slope: &mut [f64],
+) -> Step
+    requires { ⌜ Asks state (now passive) (now starts) (now near) (now coef) (now design) (now density) (now slope) ⌝ }
+    ensures { λ r. ⌜ Begun state (now (energies .entry)) room
+        (now (passive .entry)) (now (starts .entry)) (now (near .entry)) (now (coef .entry)) (now (design .entry)) (now (density .entry)) (now (slope .entry))
+        r (now (density .exit)) (now (slope .exit)) ⌝ }
+{
+    lent::ask(
+        state,
+        state.progress.stage,
+        passive,
+        starts,
+        near,
+        coef,
+        design,
+        density,
+        slope,
+    );
+    let s = run_verdict::counts::first_state(state, oc_record::compliance(energies));
+    unrecorded(room, s, Reply::Round(1))
+}
+
+// A round is solved and recorded: the first stop that applies ends the run, or the next round is asked for.
+fn solves(
+    state: State,
+    heard: Heard,
     energies: &[f64],
     volumes: &[f64],
     passive: &[bool],
@@ -71,7 +97,92 @@ pub fn take(
     dc: &mut [f64],
     dv: &mut [f64],
 ) -> Step
-    ensures { λ r. ⌜ Answers state (record { said = said; energies = now (energies .entry); flag = flag; elapsed = elapsed; allowed = allowed }) room
+    requires { ⌜ Enough state (now energies)
+        (record { volumes = now volumes; passive = now passive; starts = now starts; near = now near; coef = now coef; design = now design; density = now density; last = now last })
+        (record { free = now free; slope = now slope; spare = now spare; dc = now dc; dv = now dv }) ⌝ }
+    requires { ⌜ Fit state ⌝ }
+    ensures { λ r. ⌜ Followed state (record { heard = heard; energies = now (energies .entry) })
+        (record { volumes = now (volumes .entry); passive = now (passive .entry); starts = now (starts .entry); near = now (near .entry); coef = now (coef .entry); design = now (design .entry); density = now (density .entry); last = now (last .entry) })
+        (record { free = now (free .entry); slope = now (slope .entry); spare = now (spare .entry); dc = now (dc .entry); dv = now (dv .entry) })
+        r
+        (record { volumes = now (volumes .entry); passive = now (passive .entry); starts = now (starts .entry); near = now (near .entry); coef = now (coef .entry); design = now (design .exit); density = now (density .exit); last = now (last .exit) })
+        (record { free = now (free .exit); slope = now (slope .exit); spare = now (spare .exit); dc = now (dc .exit); dv = now (dv .exit) }) ⌝ }
+{
+    let entry = lent::solve(
+        state,
+        energies,
+        volumes,
+        passive,
+        starts,
+        near,
+        coef,
+        &density[..],
+        design,
+        last,
+        free,
+        slope,
+        spare,
+        dc,
+        dv,
+    );
+    let c = run_verdict::counts::course(state, heard, entry);
+    match c {
+        Course::Ends(why) => {
+            return Step {
+                returned: Returned {
+                    state: run_verdict::counts::recorded_state(state, entry),
+                    reply: Reply::Stop(why),
+                },
+                at: state.progress.rounds,
+                entry,
+            };
+        }
+        Course::Onward => {
+            let s = run_verdict::counts::onward_state(state, entry);
+            lent::ask(
+                state,
+                s.progress.stage,
+                passive,
+                starts,
+                near,
+                coef,
+                &design[..],
+                density,
+                slope,
+            );
+            return Step {
+                returned: Returned {
+                    state: s,
+                    reply: Reply::Round(run_verdict::counts::next_round(state)),
+                },
+                at: state.progress.rounds,
+                entry,
+            };
+        }
+    }
+}
+
+// An answer, the history having room for so many records. The last five lists are for the call's own use.
+pub fn answer_core(
+    room: usize,
+    state: State,
+    heard: Heard,
+    energies: &[f64],
+    volumes: &[f64],
+    passive: &[bool],
+    starts: &[u32],
+    near: &[u32],
+    coef: &[f64],
+    design: &mut [f64],
+    density: &mut [f64],
+    last: &mut [f64],
+    free: &mut [f64],
+    slope: &mut [f64],
+    spare: &mut [f64],
+    dc: &mut [f64],
+    dv: &mut [f64],
+) -> Step
+    ensures { λ r. ⌜ CoreAnswered state (record { heard = heard; energies = now (energies .entry) }) room
         (record { volumes = now (volumes .entry); passive = now (passive .entry); starts = now (starts .entry); near = now (near .entry); coef = now (coef .entry); design = now (design .entry); density = now (density .entry); last = now (last .entry) })
         (record { free = now (free .entry); slope = now (slope .entry); spare = now (spare .entry); dc = now (dc .entry); dv = now (dv .entry) })
         r
@@ -80,10 +191,7 @@ pub fn take(
 {
     let v = run_verdict::answers::verdict(
         state,
-        said,
-        flag,
-        elapsed,
-        allowed,
+        heard,
         energies,
         volumes.len(),
         passive.len(),
@@ -111,9 +219,10 @@ pub fn take(
             return unrecorded(room, run_plain::ended(state), Reply::Stop(Stop::Stopped));
         }
         Verdict::Begins => {
-            lent::ask(
+            return begins(
+                room,
                 state,
-                state.stage,
+                energies,
                 passive,
                 starts,
                 near,
@@ -122,20 +231,19 @@ pub fn take(
                 density,
                 slope,
             );
-            let s = run_verdict::counts::first_state(state, oc_record::compliance(energies));
-            return unrecorded(room, s, Reply::Round(1));
         }
         Verdict::Solves => {
-            let entry = lent::solve(
+            return solves(
                 state,
+                heard,
                 energies,
                 volumes,
                 passive,
                 starts,
                 near,
                 coef,
-                &density[..],
                 design,
+                density,
                 last,
                 free,
                 slope,
@@ -143,49 +251,6 @@ pub fn take(
                 dc,
                 dv,
             );
-            let c = run_verdict::counts::course(
-                state,
-                said,
-                flag,
-                elapsed,
-                allowed,
-                energies,
-                entry,
-            );
-            match c {
-                Course::Ends(why) => {
-                    return Step {
-                        told: Told {
-                            state: run_verdict::counts::recorded_state(state, entry),
-                            reply: Reply::Stop(why),
-                        },
-                        at: state.rounds,
-                        entry,
-                    };
-                }
-                Course::Onward => {
-                    let s = run_verdict::counts::onward_state(state, entry);
-                    lent::ask(
-                        state,
-                        s.stage,
-                        passive,
-                        starts,
-                        near,
-                        coef,
-                        &design[..],
-                        density,
-                        slope,
-                    );
-                    return Step {
-                        told: Told {
-                            state: s,
-                            reply: Reply::Round(run_verdict::counts::next_round(state)),
-                        },
-                        at: state.rounds,
-                        entry,
-                    };
-                }
-            }
         }
     }
 }

@@ -16,19 +16,19 @@ use Rattle.run_plain.specs.declared.Reply.the-variants.{Refused, Solid, Round, 
 use Rattle.run_plain.specs.declared.State.{State}
 use Rattle.run_plain.specs.Lent.{Sizes}
 use Rattle.run_plain.specs.Plain.{Out, stops, Seen, unopened, plainRun}
-use Rattle.run_plain.specs.Calls.{Lists, Asked, Told as Given, Result, World, Call, lend, worldAfter, openOf, openingOf, answerOf, outBy, outOf as callOut, leftAt as callLeft, resultOf, callsFrom, callsShut, callsBy, callsRun, fed, NoRun}
+use Rattle.run_plain.specs.Calls.{Lists, listsOf, Core, Asked, Arguments, Result, World, Call, lend, worldAfter, openOf, openingOf, answerOf, outBy, outOf as callOut, leftAt as callLeft, resultOf, callsFrom, callsShut, callsBy, callsRun, fed, NoRun}
 use Rattle.run_plain.proofs.Parts.{overlay-part}
 use Rattle.run_plain.proofs.Demand.{demand}
-use Rattle.run_answer.specs.declared.Told.{Told}
+use Rattle.run_plain.specs.declared.Returned.{Returned}
 use Rattle.run_answer.specs.declared.Step.{Step}
-use Rattle.run_answer.specs.Answers.{Core, Work, listsOf, lengthsOf}
+use Rattle.run_answer.specs.Answers.{Work, lengthsOf}
 use Rattle.run_open_checks.specs.Opens.{Work as OpenWork, lengthsOf as openLengths}
 use Rattle.c_numbers.specs.declared.RunState.{RunState}
-use Rattle.c_numbers.specs.declared.RunTold.{RunTold}
+use Rattle.c_numbers.specs.declared.RunReturned.{RunReturned}
 use Rattle.c_numbers.specs.declared.RunRecord.{RunRecord}
 use Rattle.c_numbers.specs.declared.RunStep.{RunStep}
-use Rattle.c_numbers.specs.Flat.{phaseOf, stateOf, stateNumbers, stopNumber, replyKind, replyNumber, toldNumbers, recordNumbers, stepNumbers, OpenedIn, AnsweredIn}
-use Rattle.run_demand.specs.Across.{Held, recordOf, worldOf, lentCore, backCore, OpenCall, AnswerCall, MetOpen, givenOf, Met, AllMet, opened, answered, stopOf, outOf, leftAt, seenFrom, seenShut, seenRun, callOf}
+use Rattle.c_numbers.specs.Flat.{phaseOf, stateOf, stateNumbers, stopNumber, replyKind, replyNumber, returnedNumbers, recordNumbers, stepNumbers, OpenedIn, AnsweredIn}
+use Rattle.run_demand.specs.Across.{Held, recordOf, worldOf, lentCore, backCore, OpenCall, AnswerCall, MetOpen, argumentsOf, Met, AllMet, opened, answered, stopOf, outOf, leftAt, seenFrom, seenShut, seenRun, callOf}
 use Rattle.c_numbers.proofs.Laws.{state-passes}
 
 -- ---- numbers and what they stand for
@@ -44,20 +44,20 @@ stop-back Limit = refl
 stop-back Budget = refl
 stop-back Stopped = refl
 
-out-is : (t : Told) (l : Core) (h : List Iteration) → outOf (toldNumbers t) l ≡ outBy (t .reply) (t .state .elements) (listsOf l h)
-unfolding outOf toldNumbers stateNumbers choose
+out-is : (t : Returned) (l : Core) (h : List Iteration) → outOf (returnedNumbers t) l ≡ outBy (t .reply) (t .state .setting .elements) (listsOf l h)
+unfolding outOf returnedNumbers stateNumbers choose
 out-is t l h = go (t .reply)
   where
-    go : (q : Reply) → outOf (record { state = stateNumbers (t .state); reply = replyKind q; number = replyNumber q }) l ≡ outBy q (t .state .elements) (listsOf l h)
+    go : (q : Reply) → outOf (record { state = stateNumbers (t .state); reply = replyKind q; number = replyNumber q }) l ≡ outBy q (t .state .setting .elements) (listsOf l h)
     go (Refused n) = refl
     go Solid = refl
     go (Round n) = refl
-    go (Stop why) = ap (λ (s : Reason). stops s (take (t .state .elements) (l .last))) (stop-back why)
+    go (Stop why) = ap (λ (s : Reason). stops s (take (t .state .setting .elements) (l .last))) (stop-back why)
 
 -- ---- an answer
 module _ (h : Held) (m : AnswerCall) (e : Met h m) (p : h .state .phase ≤ 2) where
-  told : AnsweredIn (h .state) (givenOf m) (length (take (m .lent .history) (h .history))) (lentCore (m .lent) (h .lists)) (m .work) (m .step) (m .core) (m .worked)
-  told = e .contract .known p
+  known : AnsweredIn (h .state) (argumentsOf m) (length (take (m .lent .history) (h .history))) (lentCore (m .lent) (h .lists)) (m .work) (m .step) (m .core) (m .worked)
+  known = e .contract .known p
 
   abbrev past : List Iteration
   past = take (m .lent .history) (map recordOf (h .history))
@@ -66,24 +66,24 @@ module _ (h : Held) (m : AnswerCall) (e : Met h m) (p : h .state .phase ≤ 2) w
   long = ap length (sym (map-take recordOf (m .lent .history) (h .history))) ∙ length-map (take (m .lent .history) (h .history)) recordOf
 
   abbrev result : Result
-  result = record { state = told .step .told .state; reply = told .step .told .reply; lists = listsOf (m .core) (set past (told .step .at) (told .step .entry)) }
+  result = record { state = known .step .returned .state; reply = known .step .returned .reply; lists = listsOf (m .core) (set past (known .step .at) (known .step .entry)) }
 
   result-is : result ≡ resultOf (worldOf h) (callOf m)
-  result-is = told .answers .same past long ∙ ap (λ (w : List ℕ). answerOf (stateOf (h .state)) (givenOf m) w (lend (m .lent) (worldOf h .lists))) (e .long)
+  result-is = known .answers .same past long ∙ ap (λ (w : List ℕ). answerOf (stateOf (h .state)) (argumentsOf m) w (lend (m .lent) (worldOf h .lists))) (e .long)
 
-  state-is : m .step .told .state ≡ stateNumbers (told .step .told .state)
-  unfolding stepNumbers toldNumbers
-  state-is = ap (λ (r : RunStep). r .told .state) (told .numbers)
+  state-is : m .step .returned .state ≡ stateNumbers (known .step .returned .state)
+  unfolding stepNumbers returnedNumbers
+  state-is = ap (λ (r : RunStep). r .returned .state) (known .numbers)
 
-  at-is : m .step .at ≡ told .step .at
+  at-is : m .step .at ≡ known .step .at
   unfolding stepNumbers
-  at-is = ap (λ (r : RunStep). r .at) (told .numbers)
+  at-is = ap (λ (r : RunStep). r .at) (known .numbers)
 
-  entry-is : recordOf (m .step .entry) ≡ told .step .entry
+  entry-is : recordOf (m .step .entry) ≡ known .step .entry
   unfolding stepNumbers
-  entry-is = ap (λ (r : RunStep). recordOf (r .entry)) (told .numbers) ∙ record-back (told .step .entry)
+  entry-is = ap (λ (r : RunStep). recordOf (r .entry)) (known .numbers) ∙ record-back (known .step .entry)
 
-  history-is : map recordOf (answered h m .history) ≡ overlay (set past (told .step .at) (told .step .entry)) (map recordOf (h .history))
+  history-is : map recordOf (answered h m .history) ≡ overlay (set past (known .step .at) (known .step .entry)) (map recordOf (h .history))
   history-is =
       map-overlay recordOf (set (take (m .lent .history) (h .history)) (m .step .at) (m .step .entry)) (h .history)
       ∙ ap (λ (l : List Iteration). overlay l (map recordOf (h .history)))
@@ -91,15 +91,15 @@ module _ (h : Held) (m : AnswerCall) (e : Met h m) (p : h .state .phase ≤ 2) w
 
   world-is : worldOf (answered h m) ≡ worldAfter (worldOf h .lists) (resultOf (worldOf h) (callOf m))
   world-is =
-      (λ i. record { state = (ap stateOf state-is ∙ state-passes (told .step .told .state) .1) i; lists = listsOf (backCore (m .core) (h .lists)) (history-is i) })
+      (λ i. record { state = (ap stateOf state-is ∙ state-passes (known .step .returned .state) .1) i; lists = listsOf (backCore (m .core) (h .lists)) (history-is i) })
       ∙ ap (worldAfter (worldOf h .lists)) result-is
 
   phase-on : answered h m .state .phase ≤ 2
-  phase-on = subst (λ (s : RunState). s .phase ≤ 2) (sym state-is) (state-passes (told .step .told .state) .0)
+  phase-on = subst (λ (s : RunState). s .phase ≤ 2) (sym state-is) (state-passes (known .step .returned .state) .0)
 
-  answer-out : outOf (m .step .told) (m .core) ≡ callOut (resultOf (worldOf h) (callOf m))
+  answer-out : outOf (m .step .returned) (m .core) ≡ callOut (resultOf (worldOf h) (callOf m))
   unfolding stepNumbers
-  answer-out = ap (λ (r : RunStep). outOf (r .told) (m .core)) (told .numbers) ∙ out-is (told .step .told) (m .core) (set past (told .step .at) (told .step .entry)) ∙ ap callOut result-is
+  answer-out = ap (λ (r : RunStep). outOf (r .returned) (m .core)) (known .numbers) ∙ out-is (known .step .returned) (m .core) (set past (known .step .at) (known .step .entry)) ∙ ap callOut result-is
 
 left-is : (h : Held) → leftAt h ≡ callLeft (worldOf h)
 unfolding stateOf
@@ -126,7 +126,7 @@ shut-is h (m ∷ more) p a =
 
 -- ---- an opening
 module _ (h : Held) (b : OpenCall) (e : MetOpen h b) (p : h .state .phase ≤ 2) where
-  begun : OpenedIn (h .state) (b .asked) (length (take (b .lent .history) (h .history))) (lentCore (b .lent) (h .lists)) (b .work) (b .told) (b .core) (b .worked)
+  begun : OpenedIn (h .state) (b .asked) (length (take (b .lent .history) (h .history))) (lentCore (b .lent) (h .lists)) (b .work) (b .returned) (b .core) (b .worked)
   begun = e .contract .known p
 
   abbrev before : List Iteration
@@ -136,30 +136,30 @@ module _ (h : Held) (b : OpenCall) (e : MetOpen h b) (p : h .state .phase ≤ 2)
   before-long = ap length (sym (map-take recordOf (b .lent .history) (h .history))) ∙ length-map (take (b .lent .history) (h .history)) recordOf
 
   abbrev first : Result
-  first = record { state = begun .told .state; reply = begun .told .reply; lists = listsOf (b .core) before }
+  first = record { state = begun .returned .state; reply = begun .returned .reply; lists = listsOf (b .core) before }
 
   first-is : first ≡ openOf (stateOf (h .state)) (b .asked) (b .lent .work) (lend (b .lent) (worldOf h .lists))
   first-is = begun .opens .same before before-long ∙ ap (λ (w : List ℕ). openOf (stateOf (h .state)) (b .asked) w (lend (b .lent) (worldOf h .lists))) (e .long)
 
-  first-state : b .told .state ≡ stateNumbers (begun .told .state)
-  unfolding toldNumbers
-  first-state = ap (λ (r : RunTold). r .state) (begun .numbers)
+  first-state : b .returned .state ≡ stateNumbers (begun .returned .state)
+  unfolding returnedNumbers
+  first-state = ap (λ (r : RunReturned). r .state) (begun .numbers)
 
   first-world : worldOf (opened h b) ≡ worldAfter (worldOf h .lists) first
-  first-world = λ i. record { state = (ap stateOf first-state ∙ state-passes (begun .told .state) .1) i; lists = listsOf (backCore (b .core) (h .lists)) (sym (overlay-part (b .lent .history) (map recordOf (h .history))) i) }
+  first-world = λ i. record { state = (ap stateOf first-state ∙ state-passes (begun .returned .state) .1) i; lists = listsOf (backCore (b .core) (h .lists)) (sym (overlay-part (b .lent .history) (map recordOf (h .history))) i) }
 
   first-phase : opened h b .state .phase ≤ 2
-  first-phase = subst (λ (s : RunState). s .phase ≤ 2) (sym first-state) (state-passes (begun .told .state) .0)
+  first-phase = subst (λ (s : RunState). s .phase ≤ 2) (sym first-state) (state-passes (begun .returned .state) .0)
 
-  first-out : outOf (b .told) (b .core) ≡ callOut first
-  first-out = ap (λ (r : RunTold). outOf r (b .core)) (begun .numbers) ∙ out-is (begun .told) (b .core) before
+  first-out : outOf (b .returned) (b .core) ≡ callOut first
+  first-out = ap (λ (r : RunReturned). outOf r (b .core)) (begun .numbers) ∙ out-is (begun .returned) (b .core) before
 
-  first-kind : b .told .reply ≡ replyKind (begun .told .reply)
-  unfolding toldNumbers
-  first-kind = ap (λ (r : RunTold). r .reply) (begun .numbers)
+  first-kind : b .returned .reply ≡ replyKind (begun .returned .reply)
+  unfolding returnedNumbers
+  first-kind = ap (λ (r : RunReturned). r .reply) (begun .numbers)
 
   module _ (more : List AnswerCall) (all : AllMet (opened h b) more) where
-    by-reply : (q : Reply) → choose (eqb (replyKind q) 0) (record { out = outOf (b .told) (b .core); left = unopened } ∷ seenShut (opened h b) more) (record { out = outOf (b .told) (b .core); left = leftAt (opened h b) } ∷ seenFrom (opened h b) more)
+    by-reply : (q : Reply) → choose (eqb (replyKind q) 0) (record { out = outOf (b .returned) (b .core); left = unopened } ∷ seenShut (opened h b) more) (record { out = outOf (b .returned) (b .core); left = leftAt (opened h b) } ∷ seenFrom (opened h b) more)
         ≡ callsBy (worldAfter (worldOf h .lists) first) (map callOf more) q (callOut first)
     unfolding choose
     by-reply (Refused n) = λ i. record { out = first-out i; left = unopened } ∷ (shut-is (opened h b) more first-phase all ∙ ap (λ (v : World). callsShut v (map callOf more)) first-world) i
@@ -170,8 +170,8 @@ module _ (h : Held) (b : OpenCall) (e : MetOpen h b) (p : h .state .phase ≤ 2)
     pub run-is : seenRun h b more ≡ callsRun (worldOf h) (b .lent) (b .asked) (map callOf more)
     unfolding seenRun callsRun
     run-is =
-        ap (λ (k : ℕ). choose (eqb k 0) (record { out = outOf (b .told) (b .core); left = unopened } ∷ seenShut (opened h b) more) (record { out = outOf (b .told) (b .core); left = leftAt (opened h b) } ∷ seenFrom (opened h b) more)) first-kind
-        ∙ by-reply (begun .told .reply)
+        ap (λ (k : ℕ). choose (eqb k 0) (record { out = outOf (b .returned) (b .core); left = unopened } ∷ seenShut (opened h b) more) (record { out = outOf (b .returned) (b .core); left = leftAt (opened h b) } ∷ seenFrom (opened h b) more)) first-kind
+        ∙ by-reply (begun .returned .reply)
         ∙ ap (λ (r : Result). callsBy (worldAfter (worldOf h .lists) r) (map callOf more) (r .reply) (callOut r)) first-is
 
 -- ---- demand 3 of the calls over numbers: phase 0 is a state with no run open

@@ -18,7 +18,7 @@ use Rattle.run_demand.specs.Made.{MadeOpen, Made, coreOf, MetOpen, Met}
 -- ---- an answer
 abbrev pub answerMade : World → Call → Work → Made
 answerMade w c work =
-    record { lent = c .lent; told = c .told; work = work; gives = record { state = resultOf w c .state; reply = resultOf w c .reply }; core = coreOf (resultOf w c .lists); worked = work; history = resultOf w c .lists .history }
+    record { lent = c .lent; arguments = c .arguments; work = work; returned = record { state = resultOf w c .state; reply = resultOf w c .reply }; core = coreOf (resultOf w c .lists); worked = work; history = resultOf w c .lists .history }
 
 pub as-lent : (n : ℕ) (w : Work) (v : Verdict) → worked n w w v
 as-lent n w (Kept k) = refl
@@ -32,8 +32,8 @@ answer-can w c work e =
     record {
       long = e;
       contract = record {
-        same = ap (λ (k : List ℕ). answerOf (w .state) (c .told) k (lend (c .lent) (w .lists))) (sym e);
-        work = as-lent (w .state .elements) work (verdictIn (w .state) (c .told) (length (lend (c .lent) (w .lists) .history)) (coreOf (lend (c .lent) (w .lists))) work);
+        same = ap (λ (k : List ℕ). answerOf (w .state) (c .arguments) k (lend (c .lent) (w .lists))) (sym e);
+        work = as-lent (w .state .setting .elements) work (verdictIn (w .state) (c .arguments) (length (lend (c .lent) (w .lists) .history)) (coreOf (lend (c .lent) (w .lists))) work);
       };
     }
 
@@ -57,7 +57,7 @@ open-left n w Opens = record { cell = (refl, refl); order = (refl, refl); first 
 abbrev pub openMade : World → Sizes → Asked → OpenWork → MadeOpen
 openMade w k g work =
     let r = openOf (w .state) g (k .work) (lend k (w .lists)) in
-    record { lent = k; asked = g; work = work; gives = record { state = r .state; reply = r .reply }; core = coreOf (r .lists); worked = leaves work (entryIn (w .state) g (length (lend k (w .lists) .history)) (coreOf (lend k (w .lists))) work); history = r .lists .history }
+    record { lent = k; asked = g; work = work; returned = record { state = r .state; reply = r .reply }; core = coreOf (r .lists); worked = leaves work (entryIn (w .state) g (length (lend k (w .lists) .history)) (coreOf (lend k (w .lists))) work); history = r .lists .history }
 
 pub open-can : (w : World) (k : Sizes) (g : Asked) (work : OpenWork) → openLengths work ≡ k .work → MetOpen w (openMade w k g work)
 open-can w k g work e =

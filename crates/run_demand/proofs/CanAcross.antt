@@ -18,21 +18,21 @@ use Rattle.run_plain.specs.declared.Entry.{Entry}
 use Rattle.run_plain.specs.declared.Entry.the-variants.{Kept as KeptOut, Zeroed, Shut, Opens}
 use Rattle.run_plain.specs.Opening.{Opening, entryOf}
 use Rattle.run_plain.specs.Plain.{judged, firstStop}
-use Rattle.run_plain.specs.Calls.{Lists, Asked, Told as Given, Result, sizesOf, caseFrom, checksAt, partOf, recordIn, stopsAt, solvedBy, keeps, answerBy, answerOf, zeroedLists, openBy, inTurn, openOf}
+use Rattle.run_plain.specs.Calls.{Lists, listsOf, Core, Asked, Arguments, Result, sizesOf, caseFrom, checksAt, partOf, recordIn, stopsAt, solvedBy, keeps, answerBy, answerOf, zeroedLists, openBy, inTurn, openOf}
 use Rattle.run_answer.specs.declared.Step.{Step}
-use Rattle.run_answer.specs.declared.Told.{Told}
-use Rattle.run_answer.specs.Answers.{Core, Work, listsOf, lengthsOf, verdictIn, Answers}
-use Rattle.run_open_checks.specs.Opens.{Work as OpenWork, lengthsOf as openLengths, openingIn, entryIn, Opened}
+use Rattle.run_plain.specs.declared.Returned.{Returned}
+use Rattle.run_answer.specs.Answers.{Work, lengthsOf, verdictIn, CoreAnswered}
+use Rattle.run_open_checks.specs.Opens.{Work as OpenWork, lengthsOf as openLengths, openingIn, entryIn, CoreOpened}
 use Rattle.c_numbers.specs.declared.RunState.{RunState}
-use Rattle.c_numbers.specs.declared.RunTold.{RunTold}
+use Rattle.c_numbers.specs.declared.RunReturned.{RunReturned}
 use Rattle.c_numbers.specs.declared.RunStep.{RunStep}
-use Rattle.c_numbers.specs.Flat.{stateOf, toldNumbers, recordNumbers, stepNumbers, OpenedAs, AnsweredAs}
+use Rattle.c_numbers.specs.Flat.{stateOf, returnedNumbers, recordNumbers, stepNumbers, OpenedAs, AnsweredAs}
 use Rattle.run_demand.specs.Made.{coreOf}
-use Rattle.run_demand.specs.Across.{Held, lentCore, OpenCall, AnswerCall, givenOf, MetOpen, Met}
+use Rattle.run_demand.specs.Across.{Held, lentCore, OpenCall, AnswerCall, argumentsOf, MetOpen, Met}
 use Rattle.run_demand.proofs.Can.{as-lent, leaves, open-left}
 
 -- ---- an answer: what it tells hangs on no record of the history, so it is that of the empty one
-module _ (s : State) (a : Given) (room : ℕ) (l : Core) (w : Work) where
+module _ (s : State) (a : Arguments) (room : ℕ) (l : Core) (w : Work) where
   abbrev by : Verdict → Result
   by v = answerBy s a (listsOf l []) v
 
@@ -41,10 +41,10 @@ module _ (s : State) (a : Given) (room : ℕ) (l : Core) (w : Work) where
   placeBy (Over n) = room
   placeBy Halts = room
   placeBy Begins = room
-  placeBy Solves = s .rounds
+  placeBy Solves = s .progress .rounds
 
   abbrev stepBy : Verdict → Step
-  stepBy v = record { told = record { state = by v .state; reply = by v .reply }; at = placeBy v; entry = recordIn s a (listsOf l []) }
+  stepBy v = record { returned = record { state = by v .state; reply = by v .reply }; at = placeBy v; entry = recordIn s a (listsOf l []) }
 
   abbrev put : Verdict → List Iteration → Result
   put v h = record { state = by v .state; reply = by v .reply; lists = listsOf (coreOf (by v .lists)) (set h (placeBy v) (recordIn s a (listsOf l []))) }
@@ -53,7 +53,7 @@ module _ (s : State) (a : Given) (room : ℕ) (l : Core) (w : Work) where
     past : set h room (recordIn s a (listsOf l [])) ≡ h
     past = ap (λ (n : ℕ). set h n (recordIn s a (listsOf l []))) (sym e) ∙ set-past h (recordIn s a (listsOf l []))
 
-    solves : (c : Course) → _≡_ {A = Result} (record { state = solvedBy s a (listsOf l []) c .state; reply = solvedBy s a (listsOf l []) c .reply; lists = listsOf (coreOf (solvedBy s a (listsOf l []) c .lists)) (set h (s .rounds) (recordIn s a (listsOf l []))) }) (solvedBy s a (listsOf l h) c)
+    solves : (c : Course) → _≡_ {A = Result} (record { state = solvedBy s a (listsOf l []) c .state; reply = solvedBy s a (listsOf l []) c .reply; lists = listsOf (coreOf (solvedBy s a (listsOf l []) c .lists)) (set h (s .progress .rounds) (recordIn s a (listsOf l []))) }) (solvedBy s a (listsOf l h) c)
     unfolding caseFrom
     solves (Ends why) = refl
     solves Onward = refl
@@ -64,16 +64,16 @@ module _ (s : State) (a : Given) (room : ℕ) (l : Core) (w : Work) where
     put-is (Over n) = λ i. record { state = by (Over n) .state; reply = by (Over n) .reply; lists = listsOf l (past i) }
     put-is Halts = λ i. record { state = by Halts .state; reply = by Halts .reply; lists = listsOf l (past i) }
     put-is Begins = λ i. record { state = by Begins .state; reply = by Begins .reply; lists = listsOf (coreOf (by Begins .lists)) (past i) }
-    put-is Solves = solves (firstStop (stopsAt s a (recordIn s a (listsOf l []))))
+    put-is Solves = solves (firstStop (stopsAt s (a .heard) (recordIn s a (listsOf l []))))
 
   abbrev pub verdict : Verdict
   verdict = verdictIn s a room l w
 
-  pub answers-can : Answers s a room l w (stepBy verdict) (coreOf (by verdict .lists)) w
+  pub answers-can : CoreAnswered s a room l w (stepBy verdict) (coreOf (by verdict .lists)) w
   unfolding answerOf
   answers-can = record {
     same = λ h e. put-is h e verdict ∙ ap (λ (n : ℕ). answerBy s a (listsOf l h) (verdictIn s a n l w)) (sym e);
-    work = as-lent (s .elements) w verdict;
+    work = as-lent (s .setting .elements) w verdict;
   }
 
 -- ---- an opening
@@ -96,10 +96,10 @@ module _ (s : State) (g : Asked) (room : ℕ) (l : Core) (w : OpenWork) where
       go Shut = refl
       go Opens = refl
 
-  abbrev pub tells : Told
+  abbrev pub tells : Returned
   tells = record { state = begun [] (s .phase) .state; reply = begun [] (s .phase) .reply }
 
-  pub opened-can : Opened s g room l w tells (coreOf (begun [] (s .phase) .lists)) (leaves w (entryIn s g room l w))
+  pub opened-can : CoreOpened s g room l w tells (coreOf (begun [] (s .phase) .lists)) (leaves w (entryIn s g room l w))
   unfolding openOf
   opened-can = record {
     same = λ h e. begun-is h (s .phase) ∙ ap (λ (n : ℕ). choose (inTurn (s .phase)) (openBy s (openingIn g n l w) (listsOf l h) (entryOf (openingIn g n l w))) (keeps s 20 (listsOf l h))) (sym e);
@@ -107,35 +107,35 @@ module _ (s : State) (g : Asked) (room : ℕ) (l : Core) (w : OpenWork) where
   }
 
 -- ---- as numbers, on a state as the calls leave it: the phase is at most 2
-abbrev pub answerTold : Held → AnswerCall → AnswerCall
-answerTold h m =
+abbrev pub answerNumbers : Held → AnswerCall → AnswerCall
+answerNumbers h m =
     let room = length (take (m .lent .history) (h .history)) in
     let l = lentCore (m .lent) (h .lists) in
-    let v = verdict (stateOf (h .state)) (givenOf m) room l (m .work) in
-    record { lent = m .lent; said = m .said; energies = m .energies; flag = m .flag; elapsed = m .elapsed; allowed = m .allowed; work = m .work; step = stepNumbers (stepBy (stateOf (h .state)) (givenOf m) room l (m .work) v); core = coreOf (by (stateOf (h .state)) (givenOf m) room l (m .work) v .lists); worked = m .work }
+    let v = verdict (stateOf (h .state)) (argumentsOf m) room l (m .work) in
+    record { lent = m .lent; heard = m .heard; energies = m .energies; work = m .work; step = stepNumbers (stepBy (stateOf (h .state)) (argumentsOf m) room l (m .work) v); core = coreOf (by (stateOf (h .state)) (argumentsOf m) room l (m .work) v .lists); worked = m .work }
 
-pub answer-can-across : (h : Held) (m : AnswerCall) → h .state .phase ≤ 2 → lengthsOf (m .work) ≡ m .lent .work → Met h (answerTold h m)
+pub answer-can-across : (h : Held) (m : AnswerCall) → h .state .phase ≤ 2 → lengthsOf (m .work) ≡ m .lent .work → Met h (answerNumbers h m)
 answer-can-across h m p e =
     record {
       long = e;
       contract = record {
-        known = λ q. record { step = _; numbers = refl; answers = answers-can (stateOf (h .state)) (givenOf m) (length (take (m .lent .history) (h .history))) (lentCore (m .lent) (h .lists)) (m .work) };
+        known = λ q. record { step = _; numbers = refl; answers = answers-can (stateOf (h .state)) (argumentsOf m) (length (take (m .lent .history) (h .history))) (lentCore (m .lent) (h .lists)) (m .work) };
         unknown = λ q. absurd (not-le-of-lt q p);
       };
     }
 
-abbrev pub openTold : Held → OpenCall → OpenCall
-openTold h b =
+abbrev pub openNumbers : Held → OpenCall → OpenCall
+openNumbers h b =
     let room = length (take (b .lent .history) (h .history)) in
     let l = lentCore (b .lent) (h .lists) in
-    record { lent = b .lent; asked = b .asked; work = b .work; told = toldNumbers (tells (stateOf (h .state)) (b .asked) room l (b .work)); core = coreOf (begun (stateOf (h .state)) (b .asked) room l (b .work) [] (stateOf (h .state) .phase) .lists); worked = leaves (b .work) (entryIn (stateOf (h .state)) (b .asked) room l (b .work)) }
+    record { lent = b .lent; asked = b .asked; work = b .work; returned = returnedNumbers (tells (stateOf (h .state)) (b .asked) room l (b .work)); core = coreOf (begun (stateOf (h .state)) (b .asked) room l (b .work) [] (stateOf (h .state) .phase) .lists); worked = leaves (b .work) (entryIn (stateOf (h .state)) (b .asked) room l (b .work)) }
 
-pub open-can-across : (h : Held) (b : OpenCall) → h .state .phase ≤ 2 → openLengths (b .work) ≡ b .lent .work → MetOpen h (openTold h b)
+pub open-can-across : (h : Held) (b : OpenCall) → h .state .phase ≤ 2 → openLengths (b .work) ≡ b .lent .work → MetOpen h (openNumbers h b)
 open-can-across h b p e =
     record {
       long = e;
       contract = record {
-        known = λ q. record { told = _; numbers = refl; opens = opened-can (stateOf (h .state)) (b .asked) (length (take (b .lent .history) (h .history))) (lentCore (b .lent) (h .lists)) (b .work) };
+        known = λ q. record { returned = _; numbers = refl; opens = opened-can (stateOf (h .state)) (b .asked) (length (take (b .lent .history) (h .history))) (lentCore (b .lent) (h .lists)) (b .work) };
         unknown = λ q. absurd (not-le-of-lt q p);
       };
     }

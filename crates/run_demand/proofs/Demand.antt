@@ -24,7 +24,7 @@ open-is : (w : World) (b : MadeOpen) → MetOpen w b → openResult b ≡ openOf
 open-is w b m = m .contract .same ∙ ap (λ (k : List ℕ). openOf (w .state) (b .asked) k (lend (b .lent) (w .lists))) (m .long)
 
 answer-is : (w : World) (m : Made) → Met w m → answerResult m ≡ resultOf w (callOf m)
-answer-is w m h = h .contract .same ∙ ap (λ (k : List ℕ). answerOf (w .state) (m .told) k (lend (m .lent) (w .lists))) (h .long)
+answer-is w m h = h .contract .same ∙ ap (λ (k : List ℕ). answerOf (w .state) (m .arguments) k (lend (m .lent) (w .lists))) (h .long)
 
 -- ---- and so the calls show what the functions show
 from-is : (w : World) (more : List Made) → AllMet w more → seenFrom w more ≡ callsFrom w (map callOf more)
@@ -69,14 +69,14 @@ demand-3 w b more h m all =
     let d = demand w (b .lent) (b .asked) (map callOf more) h in
     let e : openResult b ≡ openOf (w .state) (b .asked) (b .lent .work) (lend (b .lent) (w .lists)) = open-is w b m in
     let seen : seenRun w b more ≡ callsRun w (b .lent) (b .asked) (map callOf more) =
-    by-is (opened w b) more all (b .gives .reply) (outOf (openResult b)) ∙ ap (λ (r : Result). callsBy (worldAfter (w .lists) r) (map callOf more) (r .reply) (outOf r)) e in
+    by-is (opened w b) more all (b .returned .reply) (outOf (openResult b)) ∙ ap (λ (r : Result). callsBy (worldAfter (w .lists) r) (map callOf more) (r .reply) (outOf r)) e in
     let left : worldMade (opened w b) more ≡ worldFrom (worldOpen w (b .lent) (b .asked)) (map callOf more) =
     world-is (opened w b) more all ∙ ap (λ (r : Result). worldFrom (worldAfter (w .lists) r) (map callOf more)) e in
     record {
       same = seen ∙ d .same;
       opened-run = λ z. subst (OpenedRun (opening w b more)) (sym seen) (d .opened z);
       twenty = d .twenty;
-      made = λ z. d .made z ∙ ap (λ (v : World). recordedIn (take (v .state .rounds) (v .lists .history))) (sym left);
+      made = λ z. d .made z ∙ ap (λ (v : World). recordedIn (take (v .state .progress .rounds) (v .lists .history))) (sym left);
       within = λ z. subst (WithinRun (opening w b more)) (sym (seen ∙ d .same)) (within-run (opening w b more) (answers w b more) z);
       ends = λ z q mq. ends-made _ q _ _ mq (subst (λ (v : World). EndsAt v (callOf q) (plainEnd w b more) (fed (w .lists) (callOf q))) (sym left) (d .ends z (callOf q)));
       stands = λ z. subst (λ (v : World). Stands v (plainEnd w b more)) (sym left) (d .stands z);

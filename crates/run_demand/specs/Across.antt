@@ -1,7 +1,6 @@
 -- Calls over numbers that a caller made, told by their contracts alone. The caller holds a state, the lists, and a history into which it puts the record that an
 -- answer tells, at the place that it tells. Definitions only.
 use mathlib.Core.Path.{_≡_}
-use mathlib.Core.Bool.{Bool, true, false}
 use mathlib.Core.List.{List, [], _∷_, map}
 use Prim.Native.Nat.{ℕ, suc}
 use lib.ListN.{length, take, set}
@@ -13,14 +12,15 @@ use Rattle.topo.specs.declared.Stop.{Stop as Reason}
 use Rattle.topo.specs.declared.Stop.the-variants.{Settled, LevelledOff, Limit, Budget, Stopped}
 use Rattle.run_plain.specs.Lent.{Sizes}
 use Rattle.run_plain.specs.Plain.{Out, refused, asks, stops, Part, solid, round, Shown, unopened, shown, Seen}
-use Rattle.run_plain.specs.Calls.{Lists, Asked, Told as Given, World, Call, lend}
-use Rattle.run_answer.specs.Answers.{Core, Work, listsOf, lengthsOf}
+use Rattle.run_plain.specs.Calls.{Lists, listsOf, Core, Asked, Arguments, World, Call, lend}
+use Rattle.run_answer.specs.Answers.{Work, lengthsOf}
 use Rattle.run_open_checks.specs.Opens.{Work as OpenWork, lengthsOf as openLengths}
 use Rattle.c_numbers.specs.declared.RunState.{RunState}
-use Rattle.c_numbers.specs.declared.RunTold.{RunTold}
+use Rattle.c_numbers.specs.declared.RunHeard.{RunHeard}
+use Rattle.c_numbers.specs.declared.RunReturned.{RunReturned}
 use Rattle.c_numbers.specs.declared.RunRecord.{RunRecord}
 use Rattle.c_numbers.specs.declared.RunStep.{RunStep}
-use Rattle.c_numbers.specs.Flat.{saidOf, stateOf, OpenedAs, AnsweredAs}
+use Rattle.c_numbers.specs.Flat.{heardOf, stateOf, OpenedAs, AnsweredAs}
 
 pub record Held : Type 0 where
   pub state : RunState
@@ -48,39 +48,36 @@ pub record OpenCall : Type 0 where
   pub lent : Sizes
   pub asked : Asked
   pub work : OpenWork
-  pub told : RunTold
+  pub returned : RunReturned
   pub core : Core
   pub worked : OpenWork
 
 pub record AnswerCall : Type 0 where
   pub lent : Sizes
-  pub said : ℕ
+  pub heard : RunHeard
   pub energies : List Float
-  pub flag : Bool
-  pub elapsed : ℕ
-  pub allowed : ℕ
   pub work : Work
   pub step : RunStep
   pub core : Core
   pub worked : Work
 
-abbrev pub givenOf : AnswerCall → Given
-givenOf m = record { said = saidOf (m .said); energies = m .energies; flag = m .flag; elapsed = m .elapsed; allowed = m .allowed }
+abbrev pub argumentsOf : AnswerCall → Arguments
+argumentsOf m = record { heard = heardOf (m .heard); energies = m .energies }
 
 pub record MetOpen (h : Held) (b : OpenCall) : Type 0 where
   pub long : openLengths (b .work) ≡ b .lent .work
-  pub contract : OpenedAs (h .state) (b .asked) (length (take (b .lent .history) (h .history))) (lentCore (b .lent) (h .lists)) (b .work) (b .told) (b .core) (b .worked)
+  pub contract : OpenedAs (h .state) (b .asked) (length (take (b .lent .history) (h .history))) (lentCore (b .lent) (h .lists)) (b .work) (b .returned) (b .core) (b .worked)
 
 pub record Met (h : Held) (m : AnswerCall) : Type 0 where
   pub long : lengthsOf (m .work) ≡ m .lent .work
-  pub contract : AnsweredAs (h .state) (givenOf m) (length (take (m .lent .history) (h .history))) (lentCore (m .lent) (h .lists)) (m .work) (m .step) (m .core) (m .worked)
+  pub contract : AnsweredAs (h .state) (argumentsOf m) (length (take (m .lent .history) (h .history))) (lentCore (m .lent) (h .lists)) (m .work) (m .step) (m .core) (m .worked)
 
 -- what the caller then holds
 abbrev pub opened : Held → OpenCall → Held
-opened h b = record { state = b .told .state; lists = backCore (b .core) (h .lists); history = h .history }
+opened h b = record { state = b .returned .state; lists = backCore (b .core) (h .lists); history = h .history }
 
 abbrev pub answered : Held → AnswerCall → Held
-answered h m = record { state = m .step .told .state; lists = backCore (m .core) (h .lists); history = overlay (set (take (m .lent .history) (h .history)) (m .step .at) (m .step .entry)) (h .history) }
+answered h m = record { state = m .step .returned .state; lists = backCore (m .core) (h .lists); history = overlay (set (take (m .lent .history) (h .history)) (m .step .at) (m .step .entry)) (h .history) }
 
 unfoldable pub AllMet : Held → List AnswerCall → Type 0
 AllMet h [] = Unit {0}
@@ -90,7 +87,7 @@ AllMet h (m ∷ more) = Met h m × AllMet (answered h m) more
 unfoldable pub stopOf : ℕ → Reason
 stopOf n = choose (eqb n 0) Settled (choose (eqb n 1) LevelledOff (choose (eqb n 2) Limit (choose (eqb n 3) Budget Stopped)))
 
-unfoldable pub outOf : RunTold → Core → Out
+unfoldable pub outOf : RunReturned → Core → Out
 outOf t l =
     choose (eqb (t .reply) 0) (refused (t .number))
     (choose (eqb (t .reply) 1) (asks solid (take (t .state .elements) (l .density)))
@@ -102,16 +99,16 @@ leftAt h = shown (take (h .state .rounds) (map recordOf (h .history))) (take (h 
 
 unfoldable pub seenFrom : Held → List AnswerCall → List Seen
 seenFrom h [] = []
-seenFrom h (m ∷ more) = record { out = outOf (m .step .told) (m .core); left = leftAt (answered h m) } ∷ seenFrom (answered h m) more
+seenFrom h (m ∷ more) = record { out = outOf (m .step .returned) (m .core); left = leftAt (answered h m) } ∷ seenFrom (answered h m) more
 
 unfoldable pub seenShut : Held → List AnswerCall → List Seen
 seenShut h [] = []
-seenShut h (m ∷ more) = record { out = outOf (m .step .told) (m .core); left = unopened } ∷ seenShut (answered h m) more
+seenShut h (m ∷ more) = record { out = outOf (m .step .returned) (m .core); left = unopened } ∷ seenShut (answered h m) more
 
 unfoldable pub seenRun : Held → OpenCall → List AnswerCall → List Seen
 seenRun h b more =
-    choose (eqb (b .told .reply) 0) (record { out = outOf (b .told) (b .core); left = unopened } ∷ seenShut (opened h b) more)
-    (record { out = outOf (b .told) (b .core); left = leftAt (opened h b) } ∷ seenFrom (opened h b) more)
+    choose (eqb (b .returned .reply) 0) (record { out = outOf (b .returned) (b .core); left = unopened } ∷ seenShut (opened h b) more)
+    (record { out = outOf (b .returned) (b .core); left = leftAt (opened h b) } ∷ seenFrom (opened h b) more)
 
 abbrev pub callOf : AnswerCall → Call
-callOf m = record { lent = m .lent; told = givenOf m }
+callOf m = record { lent = m .lent; arguments = argumentsOf m }

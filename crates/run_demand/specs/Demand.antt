@@ -17,8 +17,8 @@ use Rattle.run_demand.specs.Made.{MadeOpen, Made, answerResult, callOf, 
 
 -- the answer m ends the run only where, and wherever, the plain run's answer a ends it, and in the same way
 pub record EndsMade (v : World) (m : Made) (r : Run) (a : Answer) : Type 0 where
-  pub only : (NoRun (v .state) → ⊥) → NoRun (m .gives .state) → Ended r a (outOf (answerResult m))
-  pub there : (o : Out) → Ended r a o → NoRun (m .gives .state) × (outOf (answerResult m) ≡ o)
+  pub only : (NoRun (v .state) → ⊥) → NoRun (m .returned .state) → Ended r a (outOf (answerResult m))
+  pub there : (o : Out) → Ended r a o → NoRun (m .returned .state) × (outOf (answerResult m) ≡ o)
 
 module _ (w : World) (b : MadeOpen) (more : List Made) where
   -- "fed the same": the opening's arguments, and of each answer the arguments and the lengths of its lists
@@ -45,7 +45,7 @@ module _ (w : World) (b : MadeOpen) (more : List Made) where
     -- the 20 rounds, of all that are begun: "A round begins when its question goes out."
     pub twenty : entryOf opening ≡ Opens → (d : Steep) → sharpest (opening .goal .sharpen) d ≡ false → times d (roundsBegun (plainStart opening) answers) ≤ 20
     -- "makes just the reckonings in its records"
-    pub made : entryOf opening ≡ Opens → madeIn (plainStart opening) answers ≡ recordedIn (take (held .state .rounds) (held .lists .history))
+    pub made : entryOf opening ≡ Opens → madeIn (plainStart opening) answers ≡ recordedIn (take (held .state .progress .rounds) (held .lists .history))
     -- "After each update held elements are 1 and free ones lie from 0.001 to 1, within the round's move as 01 rounds it."
     pub within : entryOf opening ≡ Opens → WithinRun opening (seenRun w b more)
     -- "A run ends exactly where the plain run tries a stop of 01 that applies, by the first in its order, or by a refusal that 01 marks over."

@@ -7,9 +7,9 @@ use Rattle.run_plain.specs.declared.Reply.{Reply}
 use Rattle.run_plain.specs.declared.Reply.the-variants.{Refused, Solid, Round, Stop}
 use Rattle.run_plain.specs.Lent.{Sizes}
 use Rattle.run_plain.specs.Plain.{Out, Seen, unopened}
-use Rattle.run_plain.specs.Calls.{Lists, Asked, Told, Result, World, Call, lend, worldAfter, outOf, leftAt}
-use Rattle.run_answer.specs.declared.Told.{Told as Gives}
-use Rattle.run_answer.specs.Answers.{Core, Work, listsOf, lengthsOf}
+use Rattle.run_plain.specs.Calls.{Lists, listsOf, Core, Asked, Arguments, Result, World, Call, lend, worldAfter, outOf, leftAt}
+use Rattle.run_plain.specs.declared.Returned.{Returned}
+use Rattle.run_answer.specs.Answers.{Work, lengthsOf}
 use Rattle.run_open_checks.specs.Opens.{Work as OpenWork, lengthsOf as openLengths}
 use Rattle.run.specs.Run.{Opened, Answered}
 
@@ -18,7 +18,7 @@ pub record MadeOpen : Type 0 where
   pub lent : Sizes
   pub asked : Asked
   pub work : OpenWork
-  pub gives : Gives
+  pub returned : Returned
   pub core : Core
   pub worked : OpenWork
   pub history : List Iteration
@@ -26,9 +26,9 @@ pub record MadeOpen : Type 0 where
 -- a call of `answer`
 pub record Made : Type 0 where
   pub lent : Sizes
-  pub told : Told
+  pub arguments : Arguments
   pub work : Work
-  pub gives : Gives
+  pub returned : Returned
   pub core : Core
   pub worked : Work
   pub history : List Iteration
@@ -38,23 +38,23 @@ coreOf l = record { volumes = l .volumes; passive = l .passive; starts = l .star
 
 -- what came back
 abbrev pub openResult : MadeOpen → Result
-openResult b = record { state = b .gives .state; reply = b .gives .reply; lists = listsOf (b .core) (b .history) }
+openResult b = record { state = b .returned .state; reply = b .returned .reply; lists = listsOf (b .core) (b .history) }
 
 abbrev pub answerResult : Made → Result
-answerResult m = record { state = m .gives .state; reply = m .gives .reply; lists = listsOf (m .core) (m .history) }
+answerResult m = record { state = m .returned .state; reply = m .returned .reply; lists = listsOf (m .core) (m .history) }
 
 abbrev pub callOf : Made → Call
-callOf m = record { lent = m .lent; told = m .told }
+callOf m = record { lent = m .lent; arguments = m .arguments }
 
 -- the call met its contract, on the caller's state and on the first places of its lists
 pub record MetOpen (w : World) (b : MadeOpen) : Type 0 where
   pub long : openLengths (b .work) ≡ b .lent .work
-  pub contract : Opened (w .state) (b .asked) (coreOf (lend (b .lent) (w .lists))) (b .work) (lend (b .lent) (w .lists) .history) (b .gives) (b .core) (b .worked) (b .history)
+  pub contract : Opened (w .state) (b .asked) (coreOf (lend (b .lent) (w .lists))) (b .work) (lend (b .lent) (w .lists) .history) (b .returned) (b .core) (b .worked) (b .history)
 
 pub record Met (w : World) (m : Made) : Type 0 where
   -- the working lists are as long as lent
   pub long : lengthsOf (m .work) ≡ m .lent .work
-  pub contract : Answered (w .state) (m .told) (coreOf (lend (m .lent) (w .lists))) (m .work) (lend (m .lent) (w .lists) .history) (m .gives) (m .core) (m .worked) (m .history)
+  pub contract : Answered (w .state) (m .arguments) (coreOf (lend (m .lent) (w .lists))) (m .work) (lend (m .lent) (w .lists) .history) (m .returned) (m .core) (m .worked) (m .history)
 
 -- every answer did, each on what the last call left
 unfoldable pub AllMet : World → List Made → Type 0
@@ -80,7 +80,7 @@ abbrev pub opened : World → MadeOpen → World
 opened w b = worldAfter (w .lists) (openResult b)
 
 unfoldable pub seenRun : World → MadeOpen → List Made → List Seen
-seenRun w b more = seenBy (opened w b) more (b .gives .reply) (outOf (openResult b))
+seenRun w b more = seenBy (opened w b) more (b .returned .reply) (outOf (openResult b))
 
 -- what the caller then holds
 unfoldable pub worldMade : World → List Made → World

@@ -14,18 +14,16 @@ use Rattle.lists.proofs.Laws.{neither, choose-false, length-tabulate, getD-tabu
 use Rattle.ieee.specs.Basic.{one64}
 use Rattle.filter.specs.Filter.{start}
 use Rattle.filter.specs.Build.{Lent, Outcome, zeroed, built, numberOf, left, Worked, outcome, Built}
-use Rattle.run_plain.specs.declared.Phase.the-variants.{Solid as SolidPhase}
 use Rattle.run_plain.specs.declared.State.{State}
 use Rattle.run_plain.specs.declared.Reply.the-variants.{Refused}
 use Rattle.run_plain.specs.declared.Entry.the-variants.{Zeroed, Shut, Opens}
 use Rattle.run_plain.specs.Lent.{short, openShort, runShort}
 use Rattle.run_plain.specs.Formulas.{ones}
 use Rattle.run_plain.specs.Opening.{Opening, elements, startsOf, nearOf, coefOf, startOf, tableRefusal, firstRefusal, lastly, entryOf}
-use Rattle.run_plain.specs.Calls.{Asked, endedOf, inTurn}
+use Rattle.run_plain.specs.Calls.{Core, Asked, endedOf, inTurn, openedState}
 use Rattle.run_plain.proofs.Formulas.{length-start}
-use Rattle.run_answer.specs.declared.Told.{Told}
-use Rattle.run_answer.specs.Answers.{Core}
-use Rattle.run_open_checks.specs.Opens.{Work, openingIn, Left, Opened}
+use Rattle.run_plain.specs.declared.Returned.{Returned}
+use Rattle.run_open_checks.specs.Opens.{Work, openingIn, Left, CoreOpened}
 use Rattle.run_open_checks.proofs.Opens.{turn-law, kept-law, zeroed-law, shut-law, opens-law}
 use Rattle.run_open_checks.proofs.Outcome.{entry-kept, entry-zeroed, entry-last, passed, not-short, outcome-is}
 use Rattle.run_open.specs.Steps.{Lastly, ShutBy, BegunBy}
@@ -51,11 +49,11 @@ module _ (s : State) (g : Asked) (room : ℕ) (l : Core) (w : Work) where
   o = openingIn g room l w
 
   -- 20
-  pub out-of-turn : inTurn (s .phase) ≡ false → Opened s g room l w (record { state = s; reply = Refused 20 }) l w
+  pub out-of-turn : inTurn (s .phase) ≡ false → CoreOpened s g room l w (record { state = s; reply = Refused 20 }) l w
   out-of-turn = turn-law s g room l w
 
   -- a refusal before the rows
-  pub refused-law : (r : ℕ) → inTurn (s .phase) ≡ true → r ≡ firstRefusal o → 0 < r → Opened s g room l w (record { state = s; reply = Refused r }) l w
+  pub refused-law : (r : ℕ) → inTurn (s .phase) ≡ true → r ≡ firstRefusal o → 0 < r → CoreOpened s g room l w (record { state = s; reply = Refused r }) l w
   refused-law zero t e p = absurd (omega (arith, p))
   refused-law (suc n) t e p = kept-law s g room l w (suc n) t (entry-kept o n (sym e))
 
@@ -77,7 +75,7 @@ module _ (s : State) (g : Asked) (room : ℕ) (l : Core) (w : Work) where
     zeroes : (n : ℕ) → b ≡ suc n → came ≡ zeroed (suc n)
     zeroes n e = comes ∙ ap (λ (t : ℕ). choose (eqb t 0) built (zeroed t)) (sym b-is ∙ e) ∙ zeroed-is n
 
-    rows-by : (n : ℕ) → b ≡ suc n → Opened s g room l w (record { state = s; reply = Refused b }) (record { volumes = l .volumes; passive = l .passive; starts = st; near = ne; coef = co; design = l .design; density = l .density; last = l .last }) w₁
+    rows-by : (n : ℕ) → b ≡ suc n → CoreOpened s g room l w (record { state = s; reply = Refused b }) (record { volumes = l .volumes; passive = l .passive; starts = st; near = ne; coef = co; design = l .design; density = l .density; last = l .last }) w₁
     unfolding nearOf coefOf
     rows-by n e =
         let c = zeroes n e in
@@ -99,10 +97,10 @@ module _ (s : State) (g : Asked) (room : ℕ) (l : Core) (w : Work) where
         (made .coef ∙ ap (λ (v : Outcome). left v (coefOf o) zero64 (l .coef)) c)
         h
 
-    pub rows-law : 0 < b → Opened s g room l w (record { state = s; reply = Refused b }) (record { volumes = l .volumes; passive = l .passive; starts = st; near = ne; coef = co; design = l .design; density = l .density; last = l .last }) w₁
+    pub rows-law : 0 < b → CoreOpened s g room l w (record { state = s; reply = Refused b }) (record { volumes = l .volumes; passive = l .passive; starts = st; near = ne; coef = co; design = l .design; density = l .density; last = l .last }) w₁
     rows-law p = go b refl
       where
-        go : (k : ℕ) → b ≡ k → Opened s g room l w (record { state = s; reply = Refused b }) (record { volumes = l .volumes; passive = l .passive; starts = st; near = ne; coef = co; design = l .design; density = l .density; last = l .last }) w₁
+        go : (k : ℕ) → b ≡ k → CoreOpened s g room l w (record { state = s; reply = Refused b }) (record { volumes = l .volumes; passive = l .passive; starts = st; near = ne; coef = co; design = l .design; density = l .density; last = l .last }) w₁
         go zero e = absurd (omega (arith, p, e))
         go (suc n) e = rows-by n e
 
@@ -168,8 +166,8 @@ module _ (s : State) (g : Asked) (room : ℕ) (l : Core) (w : Work) where
           ∙ getD-tabulate (start (g .centroids) (g .goal .radius) (g .mirrors)) (length (g .centroids) + 1) (length (g .centroids)) 0 (omega arith)
 
       -- the flag is set
-      shut : (r : Told) (x q : List Float) (w₂ : Work) → g .flag ≡ true → ShutBy s (l .design) (l .density) w₁ r x q w₂
-          → Opened s g room l w r (record { volumes = l .volumes; passive = l .passive; starts = st; near = ne; coef = co; design = x; density = q; last = l .last }) w₂
+      shut : (r : Returned) (x q : List Float) (w₂ : Work) → g .flag ≡ true → ShutBy s (l .design) (l .density) w₁ r x q w₂
+          → CoreOpened s g room l w r (record { volumes = l .volumes; passive = l .passive; starts = st; near = ne; coef = co; design = x; density = q; last = l .last }) w₂
       shut r x q w₂ t h =
           let k = worked in
           let f : Left (length (l .volumes)) w w₂ Shut =
@@ -185,29 +183,29 @@ module _ (s : State) (g : Asked) (room : ℕ) (l : Core) (w : Work) where
           } in
           let e : entryOf o ≡ Shut = entry-last o none (sym b-is ∙ zero-b) ∙ ap (lastly o) t in
           let m = shut-law s g room l w (endedOf s) st ne co w₂ turn e refl starts-is near-is coef-is f in
-          subst (λ (z : List Float). Opened s g room l w r (record { volumes = l .volumes; passive = l .passive; starts = st; near = ne; coef = co; design = z; density = q; last = l .last }) w₂) (sym (h .design))
-          (subst (λ (z : List Float). Opened s g room l w r (record { volumes = l .volumes; passive = l .passive; starts = st; near = ne; coef = co; design = l .design; density = z; last = l .last }) w₂) (sym (h .density))
-          (subst (λ (z : Told). Opened s g room l w z (record { volumes = l .volumes; passive = l .passive; starts = st; near = ne; coef = co; design = l .design; density = l .density; last = l .last }) w₂) (sym (h .told)) m))
+          subst (λ (z : List Float). CoreOpened s g room l w r (record { volumes = l .volumes; passive = l .passive; starts = st; near = ne; coef = co; design = z; density = q; last = l .last }) w₂) (sym (h .design))
+          (subst (λ (z : List Float). CoreOpened s g room l w r (record { volumes = l .volumes; passive = l .passive; starts = st; near = ne; coef = co; design = l .design; density = z; last = l .last }) w₂) (sym (h .density))
+          (subst (λ (z : Returned). CoreOpened s g room l w z (record { volumes = l .volumes; passive = l .passive; starts = st; near = ne; coef = co; design = l .design; density = l .density; last = l .last }) w₂) (sym (h .returned)) m))
 
       -- it is not
-      begun : (r : Told) (n : ℕ) (x q : List Float) (w₂ : Work) → g .flag ≡ false → n ≡ length (nearOf o) → BegunBy (g .goal) n (l .volumes) (l .passive) (l .design) (l .density) w₁ r x q w₂
-          → Opened s g room l w r (record { volumes = l .volumes; passive = l .passive; starts = st; near = ne; coef = co; design = x; density = q; last = l .last }) w₂
+      begun : (r : Returned) (n : ℕ) (x q : List Float) (w₂ : Work) → g .flag ≡ false → n ≡ length (nearOf o) → BegunBy (g .goal) n (l .volumes) (l .passive) (l .design) (l .density) w₁ r x q w₂
+          → CoreOpened s g room l w r (record { volumes = l .volumes; passive = l .passive; starts = st; near = ne; coef = co; design = x; density = q; last = l .last }) w₂
       unfolding overlay ones startOf
       begun r n x q w₂ t c h =
           let e : entryOf o ≡ Opens = entry-last o none (sym b-is ∙ zero-b) ∙ ap (lastly o) t in
           let f : Left (length (l .volumes)) w w₂ Opens = subst (λ (v : Work). Left (length (l .volumes)) w v Opens) (sym (h .work)) (subst (λ (k : ℕ). Left k w w₁ Opens) long worked) in
           let d : x ≡ overlay (startOf o) (l .design) = h .design ∙ ap (λ (k : ℕ). startOf o ++ drop k (l .design)) (sym (length-start o)) in
           let p : q ≡ overlay (ones (length (l .volumes))) (l .density) = h .density ∙ overwrite-is (λ _. one64) (length (l .volumes)) (l .density) density-fits ∙ ap (λ (k : ℕ). ones (length (l .volumes)) ++ drop k (l .density)) (sym (length-tabulate (λ _. one64) (length (l .volumes)))) in
-          let m = opens-law s g room l w (record { phase = SolidPhase; elements = length (l .volumes); entries = n; fraction = g .goal .fraction; sharpen = g .goal .sharpen; «max_iterations» = g .goal .«max_iterations»; rounds = 0; stage = 0; «at_stage» = 0; steady = 0; «solid_compliance» = zero64; compliance = zero64 }) st ne co x q w₂ turn e
-          (ap (λ (k : ℕ). record { phase = SolidPhase; elements = length (l .volumes); entries = k; fraction = g .goal .fraction; sharpen = g .goal .sharpen; «max_iterations» = g .goal .«max_iterations»; rounds = 0; stage = 0; «at_stage» = 0; steady = 0; «solid_compliance» = zero64; compliance = zero64 }) c) starts-is near-is coef-is d p f in
-          subst (λ (z : Told). Opened s g room l w z (record { volumes = l .volumes; passive = l .passive; starts = st; near = ne; coef = co; design = x; density = q; last = l .last }) w₂) (sym (h .told)) m
+          let m = opens-law s g room l w (openedState (g .goal) (length (l .volumes)) n) st ne co x q w₂ turn e
+          (ap (openedState (g .goal) (length (l .volumes))) c) starts-is near-is coef-is d p f in
+          subst (λ (z : Returned). CoreOpened s g room l w z (record { volumes = l .volumes; passive = l .passive; starts = st; near = ne; coef = co; design = x; density = q; last = l .last }) w₂) (sym (h .returned)) m
 
-      pub last-law : (r : Told) (e : ℕ) (x q : List Float) (w₂ : Work) → e ≡ getD st (length (l .volumes)) 0
+      pub last-law : (r : Returned) (e : ℕ) (x q : List Float) (w₂ : Work) → e ≡ getD st (length (l .volumes)) 0
           → Lastly (g .flag) s (g .goal) e (l .volumes) (l .passive) (l .design) (l .density) w₁ r x q w₂
-          → Opened s g room l w r (record { volumes = l .volumes; passive = l .passive; starts = st; near = ne; coef = co; design = x; density = q; last = l .last }) w₂
+          → CoreOpened s g room l w r (record { volumes = l .volumes; passive = l .passive; starts = st; near = ne; coef = co; design = x; density = q; last = l .last }) w₂
       last-law r e x q w₂ f h = go (g .flag) refl h
         where
           go : (t : Bool) → g .flag ≡ t → Lastly t s (g .goal) e (l .volumes) (l .passive) (l .design) (l .density) w₁ r x q w₂
-              → Opened s g room l w r (record { volumes = l .volumes; passive = l .passive; starts = st; near = ne; coef = co; design = x; density = q; last = l .last }) w₂
+              → CoreOpened s g room l w r (record { volumes = l .volumes; passive = l .passive; starts = st; near = ne; coef = co; design = x; density = q; last = l .last }) w₂
           go true t k = shut r x q w₂ t k
           go false t k = begun r e x q w₂ t (entries-are e f) k

@@ -3,11 +3,11 @@ ghost use mathlib.Core.Path.{_≡_};
 ghost use Prim.Native.Nat.{_≤_, _<_};
 ghost use lib.ListN.{length, getD};
 ghost use Rattle.run_plain.specs.Calls.{inTurn};
-ghost use Rattle.run_open_checks.specs.Opens.{Opened};
+ghost use Rattle.run_open_checks.specs.Opens.{CoreOpened};
 ghost use Rattle.run_open.specs.Steps.{Lastly};
-use run_answer::Told;
 use run_plain::Phase;
 use run_plain::Reply;
+use run_plain::Returned;
 use run_plain::State;
 use topo::Goal;
 
@@ -48,7 +48,7 @@ fn lastly(
     weight: &mut [f64],
     found: &mut [u32],
     bits: &mut [u64],
-) -> Told
+) -> Returned
     requires { ⌜ (length (now volumes) ≤ length (now density)) × (length (now passive) ≤ length (now design)) ⌝ }
     ensures { λ r. ⌜ Lastly flag state goal entries (now (volumes .entry)) (now (passive .entry)) (now (design .entry)) (now (density .entry))
         (record { cell = now (cell .entry); order = now (order .entry); first = now (first .entry); sorted = now (sorted .entry); stamp = now (stamp .entry); weight = now (weight .entry); found = now (found .entry); bits = now (bits .entry) })
@@ -57,21 +57,21 @@ fn lastly(
 {
     if flag {
         filter_build::wipe_work(cell, order, first, sorted, stamp, weight, found, bits);
-        return Told {
+        return Returned {
             state: run_plain::ended(state),
             reply: Reply::Refused(15),
         };
     }
     run_open_checks::begin(goal, volumes, passive, design);
     run_open_checks::ask_solid(volumes.len(), density);
-    Told {
+    Returned {
         state: run_open_checks::opened_state(goal, volumes.len(), entries),
         reply: Reply::Solid,
     }
 }
 
 // An opening, the history having room for so many records. The last eight lists are for the call's own use.
-pub fn take(
+pub fn open_core(
     room: usize,
     state: State,
     goal: Goal,
@@ -94,8 +94,8 @@ pub fn take(
     weight: &mut [f64],
     found: &mut [u32],
     bits: &mut [u64],
-) -> Told
-    ensures { λ r. ⌜ Opened state (record { centroids = now (centroids .entry); mirrors = now (mirrors .entry); goal = goal; flag = flag }) room
+) -> Returned
+    ensures { λ r. ⌜ CoreOpened state (record { centroids = now (centroids .entry); mirrors = now (mirrors .entry); goal = goal; flag = flag }) room
         (record { volumes = now (volumes .entry); passive = now (passive .entry); starts = now (starts .entry); near = now (near .entry); coef = now (coef .entry); design = now (design .entry); density = now (density .entry); last = now (last .entry) })
         (record { cell = now (cell .entry); order = now (order .entry); first = now (first .entry); sorted = now (sorted .entry); stamp = now (stamp .entry); weight = now (weight .entry); found = now (found .entry); bits = now (bits .entry) })
         r
@@ -104,7 +104,7 @@ pub fn take(
 {
     let phase = state.phase;
     if !in_turn(phase) {
-        return Told {
+        return Returned {
             state,
             reply: Reply::Refused(20),
         };
@@ -133,7 +133,7 @@ pub fn take(
         bits.len(),
     );
     if r > 0 {
-        return Told {
+        return Returned {
             state,
             reply: Reply::Refused(r),
         };
@@ -156,7 +156,7 @@ pub fn take(
         bits,
     );
     if b > 0 {
-        return Told {
+        return Returned {
             state,
             reply: Reply::Refused(b),
         };

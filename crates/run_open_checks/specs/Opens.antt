@@ -11,9 +11,8 @@ use Rattle.run_plain.specs.declared.State.{State}
 use Rattle.run_plain.specs.declared.Entry.{Entry}
 use Rattle.run_plain.specs.declared.Entry.the-variants.{Kept}
 use Rattle.run_plain.specs.Opening.{Opening, entryOf}
-use Rattle.run_plain.specs.Calls.{Asked, Result, openOf, workBy, inTurn}
-use Rattle.run_answer.specs.declared.Told.{Told}
-use Rattle.run_answer.specs.Answers.{Core, listsOf}
+use Rattle.run_plain.specs.Calls.{Core, Asked, Result, listsOf, sizesIn, openOf, workBy, inTurn}
+use Rattle.run_plain.specs.declared.Returned.{Returned}
 
 -- the working lists: the filter's
 pub record Work : Type 0 where
@@ -39,7 +38,7 @@ openingIn g room l w =
       mirrors = g .mirrors;
       goal = g .goal;
       flag = g .flag;
-      lent = record { volumes = length (l .volumes); passive = length (l .passive); starts = length (l .starts); near = length (l .near); coef = length (l .coef); design = length (l .design); density = length (l .density); last = length (l .last); history = room; work = lengthsOf w };
+      lent = sizesIn (lengthsOf w) l room;
     }
 
 -- what it comes to: 20 where it is out of turn
@@ -58,6 +57,6 @@ pub record Left (n : ℕ) (w w′ : Work) (v : Entry) : Type 0 where
   pub bits : workBy 0 words (w .bits) (w′ .bits) v
 
 -- for every history of `room` records, which an opening leaves as it is: what the core returns and leaves is what an opening does
-pub record Opened (s : State) (g : Asked) (room : ℕ) (l : Core) (w : Work) (r : Told) (o : Core) (w′ : Work) : Type 0 where
+pub record CoreOpened (s : State) (g : Asked) (room : ℕ) (l : Core) (w : Work) (r : Returned) (o : Core) (w′ : Work) : Type 0 where
   pub same : (h : List Iteration) → length h ≡ room → _≡_ {A = Result} (record { state = r .state; reply = r .reply; lists = listsOf o h }) (openOf s g (lengthsOf w) (listsOf l h))
   pub work : Left (length (l .volumes)) w w′ (entryIn s g room l w)

@@ -3,15 +3,19 @@ ghost use mathlib.Core.Path.{_≡_};
 ghost use mathlib.Core.List.{[], _∷_, _++_};
 ghost use Prim.Native.Nat.{_≤_, _<_};
 ghost use lib.ListN.{length, drop};
-ghost use Rattle.lists.specs.Lists.{overwrite, zero64};
+ghost use Rattle.lists.specs.Lists.{overwrite};
 ghost use Rattle.ieee.specs.Basic.{one64};
 ghost use Rattle.oc_start.specs.Start.{solidVolume, startDesign};
 ghost use Rattle.oc_goal.specs.Goal.{targetOf, startDensity};
 ghost use Rattle.run_plain.specs.Lent.{openShort};
 ghost use Rattle.run_plain.specs.Formulas.{sumOf};
 ghost use Rattle.run_plain.specs.Opening.{fractionBad, firstRefusal};
+ghost use Rattle.run_plain.specs.Calls.{openedState};
 ghost use Rattle.run_open_checks.specs.Asked.{opening};
+use run_plain::Compliances;
 use run_plain::Phase;
+use run_plain::Progress;
+use run_plain::Setting;
 use run_plain::State;
 use topo::Goal;
 
@@ -43,7 +47,18 @@ fn too_short(
     bits: usize,
 ) -> bool
     requires { ⌜ elements < 65536 ⌝ }
-    ensures { λ r. ⌜ r ≡ openShort elements rounds (record { volumes = volumes; passive = passive; starts = starts; near = near; coef = coef; design = design; density = density; last = last; history = history; work = cell ∷ order ∷ first ∷ sorted ∷ stamp ∷ weight ∷ found ∷ bits ∷ [] }) ⌝ }
+    ensures { λ r. ⌜ r ≡ openShort elements rounds (record {
+      volumes = volumes;
+      passive = passive;
+      starts = starts;
+      near = near;
+      coef = coef;
+      design = design;
+      density = density;
+      last = last;
+      history = history;
+      work = cell ∷ order ∷ first ∷ sorted ∷ stamp ∷ weight ∷ found ∷ bits ∷ [];
+    }) ⌝ }
 {
     ((starts < elements + 1)
         | ((design < elements)
@@ -81,7 +96,8 @@ pub fn refusal(
     found: usize,
     bits: usize,
 ) -> u32
-    ensures { λ r. ⌜ r ≡ firstRefusal (opening goal flag (now (volumes .entry)) (now (centroids .entry)) (now (passive .entry)) (now (mirrors .entry)) starts near coef design density last history (cell ∷ order ∷ first ∷ sorted ∷ stamp ∷ weight ∷ found ∷ bits ∷ [])) ⌝ }
+    ensures { λ r. ⌜ r ≡ firstRefusal (opening goal flag (now (volumes .entry)) (now (centroids .entry)) (now (passive .entry)) (now (mirrors .entry))
+        starts near coef design density last history (cell ∷ order ∷ first ∷ sorted ∷ stamp ∷ weight ∷ found ∷ bits ∷ [])) ⌝ }
 {
     let n = volumes.len();
     let differ = (centroids.len() != n) | (passive.len() != n);
@@ -157,20 +173,26 @@ pub fn begin(goal: Goal, volumes: &[f64], passive: &[bool], design: &mut [f64])
 
 // The state of a run that is opened: it asks for the solid part.
 pub fn opened_state(goal: Goal, elements: usize, entries: usize) -> State
-    ensures { λ r. ⌜ r ≡ record { phase = Phase.Solid; elements = elements; entries = entries; fraction = goal .fraction; sharpen = goal .sharpen; «max_iterations» = goal .«max_iterations»; rounds = 0; stage = 0; «at_stage» = 0; steady = 0; «solid_compliance» = zero64; compliance = zero64 } ⌝ }
+    ensures { λ r. ⌜ r ≡ openedState goal elements entries ⌝ }
 {
     State {
         phase: Phase::Solid,
-        elements,
-        entries,
-        fraction: goal.fraction,
-        sharpen: goal.sharpen,
-        max_iterations: goal.max_iterations,
-        rounds: 0,
-        stage: 0,
-        at_stage: 0,
-        steady: 0,
-        solid_compliance: 0.0,
-        compliance: 0.0,
+        setting: Setting {
+            elements,
+            entries,
+            fraction: goal.fraction,
+            sharpen: goal.sharpen,
+            max_iterations: goal.max_iterations,
+        },
+        progress: Progress {
+            rounds: 0,
+            stage: 0,
+            at_stage: 0,
+            steady: 0,
+        },
+        compliances: Compliances {
+            solid: 0.0,
+            last: 0.0,
+        },
     }
 }

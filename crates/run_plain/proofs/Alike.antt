@@ -18,7 +18,7 @@ use Rattle.run_plain.specs.Lent.{Sizes, answerShort}
 use Rattle.run_plain.specs.Formulas.{Steep, Case, updateAt, recordAt, notFinite, idle, small}
 use Rattle.run_plain.specs.Opening.{elements, nearOf, caseOf}
 use Rattle.run_plain.specs.Plain.{Part, nothing, solid, round, Row, inOrder, Checks, stageOf, sharpest, steadyRun, Run, Step, ended, askedOf, updated, stopsOf, checksOf}
-use Rattle.run_plain.specs.Calls.{endedOf, Lists, Told, Result, sizesOf, steepAt, counts, soundIn, sound, partIn, partOf, caseFrom, checksAt, designIn, densityIn, updateIn, recordIn, steadyAt, stopsAt, recordedLists, lend, giveBack, Call, outOf, fed}
+use Rattle.run_plain.specs.Calls.{endedOf, Lists, Arguments, Result, sizesOf, steepAt, inRange, soundIn, sound, partIn, partOf, caseFrom, checksAt, designIn, densityIn, updateIn, recordIn, steadyAt, stopsAt, writtenLists, lend, giveBack, Call, outOf, fed}
 use Rattle.run_plain.proofs.Parts.{take-part, overlay-part, Enough, enough}
 use Rattle.run_plain.proofs.Formulas.{Ready}
 use Rattle.run_plain.proofs.Counts.{stage-most, steep-at, Climbs, Running, steady-on, rowOf}
@@ -41,17 +41,17 @@ Fits (round n) r s = (s .phase ≡ Round) × (n ≡ suc (length (r .rows))) × (
 -- the run r stands as the state s and the lists l say; the lists are as long as l₀
 pub record Sim (l₀ : Lists) (r : Run) (s : State) (l : Lists) : Type 0 where
   pub ready : Ready (r .given)
-  pub elements : s .elements ≡ elements (r .given)
-  pub entries : s .entries ≡ length (nearOf (r .given))
-  pub limit : s .«max_iterations» ≡ r .given .goal .«max_iterations»
+  pub elements : s .setting .elements ≡ elements (r .given)
+  pub entries : s .setting .entries ≡ length (nearOf (r .given))
+  pub limit : s .setting .«max_iterations» ≡ r .given .goal .«max_iterations»
   pub sizes : sizesOf [] l ≡ sizesOf [] l₀
   pub case : caseFrom s l ≡ caseOf (r .given)
   pub design : designIn s l ≡ r .design
   pub asked : AskedFits (r .part) (densityIn s l) (askedOf r)
-  pub last : LastFits (r .rows) (take (s .elements) (l .last)) (r .last)
-  pub rounds : s .rounds ≡ length (r .rows)
-  pub history : take (s .rounds) (l .history) ≡ inOrder (r .rows)
-  pub solidWork : s .«solid_compliance» ≡ r .solidWork
+  pub last : LastFits (r .rows) (take (s .setting .elements) (l .last)) (r .last)
+  pub rounds : s .progress .rounds ≡ length (r .rows)
+  pub history : take (s .progress .rounds) (l .history) ≡ inOrder (r .rows)
+  pub solidWork : s .compliances .solid ≡ r .solidWork
   pub fits : Fits (r .part) r s
   pub climbs : Climbs (r .steep) (r .rows)
 
@@ -60,32 +60,32 @@ holds : (a b : Bool) → a ≡ true → b ≡ true → (a && b) ≡ true
 holds true b p q = q
 holds false b p q = p
 
-counts-are : (s : State) (f : Bool) (b : Steep) (rows : List Row) → s .elements ≤ 65535 → Running f b rows s → counts s ≡ true
-unfolding counts
-counts-are s f b rows h r =
+in-range : (s : State) (f : Bool) (b : Steep) (rows : List Row) → s .setting .elements ≤ 65535 → Running f b rows s → inRange s ≡ true
+unfolding inRange
+in-range s f b rows h r =
     let m : stageOf b ≤ 4 = stage-most b in
-    let e : s .stage ≡ stageOf b = r .stage in
-    holds _ _ (holds _ _ (holds _ _ (le-leb (s .stage) 4 (omega arith)) (lt-ltb (s .«at_stage») 20 (r .few))) (lt-ltb (s .steady) 5 (r .calm))) (le-leb (s .elements) 65535 h)
+    let e : s .progress .stage ≡ stageOf b = r .stage in
+    holds _ _ (holds _ _ (holds _ _ (le-leb (s .progress .stage) 4 (omega arith)) (lt-ltb (s .progress .«at_stage») 20 (r .few))) (lt-ltb (s .progress .steady) 5 (r .calm))) (le-leb (s .setting .elements) 65535 h)
 
 -- every state of a run passes 20's test
-pub sound-is : (p : Part) (r : Run) (s : State) → s .elements ≤ 65535 → s .rounds ≡ length (r .rows) → s .«max_iterations» ≡ r .given .goal .«max_iterations» → Fits p r s → sound s ≡ true
+pub sound-is : (p : Part) (r : Run) (s : State) → s .setting .elements ≤ 65535 → s .progress .rounds ≡ length (r .rows) → s .setting .«max_iterations» ≡ r .given .goal .«max_iterations» → Fits p r s → sound s ≡ true
 unfolding sound
 sound-is nothing r s h d m f = ap (λ (x : Phase). soundIn x s) f
 sound-is solid r s h d m f =
-    let z : s .rounds ≡ 0 = d ∙ ap length (f .1) in
-    ap (λ (x : Phase). soundIn x s) (f .0) ∙ holds _ _ (counts-are s _ _ _ h (f .2)) (eq-eqb _ _ z)
+    let z : s .progress .rounds ≡ 0 = d ∙ ap length (f .1) in
+    ap (λ (x : Phase). soundIn x s) (f .0) ∙ holds _ _ (in-range s _ _ _ h (f .2)) (eq-eqb _ _ z)
 sound-is (round n) r s h d m f =
-    let z : s .rounds < s .«max_iterations» = omega (arith, f .2) in
-    ap (λ (x : Phase). soundIn x s) (f .0) ∙ holds _ _ (counts-are s _ _ _ h (f .3)) (lt-ltb _ _ z)
+    let z : s .progress .rounds < s .setting .«max_iterations» = omega (arith, f .2) in
+    ap (λ (x : Phase). soundIn x s) (f .0) ∙ holds _ _ (in-range s _ _ _ h (f .3)) (lt-ltb _ _ z)
 
-part-in : (p : Part) (r : Run) (s : State) → s .rounds ≡ length (r .rows) → Fits p r s → partIn (s .phase) s ≡ p
+part-in : (p : Part) (r : Run) (s : State) → s .progress .rounds ≡ length (r .rows) → Fits p r s → partIn (s .phase) s ≡ p
 part-in nothing r s d f = ap (λ (x : Phase). partIn x s) f
 part-in solid r s d f = ap (λ (x : Phase). partIn x s) (f .0)
 part-in (round n) r s d f =
-    let q : suc (s .rounds) ≡ n = omega (arith, f .1) in
+    let q : suc (s .progress .rounds) ≡ n = omega (arith, f .1) in
     ap (λ (x : Phase). partIn x s) (f .0) ∙ ap round q
 
-pub part-is : (p : Part) (r : Run) (s : State) → s .elements ≤ 65535 → s .rounds ≡ length (r .rows) → s .«max_iterations» ≡ r .given .goal .«max_iterations» → Fits p r s → partOf s ≡ p
+pub part-is : (p : Part) (r : Run) (s : State) → s .setting .elements ≤ 65535 → s .progress .rounds ≡ length (r .rows) → s .setting .«max_iterations» ≡ r .given .goal .«max_iterations» → Fits p r s → partOf s ≡ p
 unfolding partOf choose
 part-is p r s h d m f = rw (sound-is p r s h d m f) (part-in p r s d f)
 
@@ -104,23 +104,23 @@ lent-sizes k l l₀ e =
       work = k .work;
     })
 
-pub checks-same : (l₀ : Lists) (r : Run) (s : State) (l : Lists) (c : Call) → Sim l₀ r s l → checksAt s (c .told) (sizesOf (c .lent .work) (lend (c .lent) l)) ≡ checksOf r (fed l₀ c)
+pub checks-same : (l₀ : Lists) (r : Run) (s : State) (l : Lists) (c : Call) → Sim l₀ r s l → checksAt s (c .arguments) (sizesOf (c .lent .work) (lend (c .lent) l)) ≡ checksOf r (fed l₀ c)
 unfolding checksAt checksOf
 checks-same l₀ r s l c m =
     let z = lent-sizes (c .lent) l l₀ (m .sizes) in
     λ i. record {
       short = answerShort (m .elements i) (m .entries i) (m .limit i) (z i);
-      said = c .told .said;
+      said = c .arguments .heard .said;
       stands = ltb 0 (m .rounds i);
-      count = not (eqb (length (c .told .energies)) (m .elements i));
-      bad = notFinite (c .told .energies);
-      idle = idle (complianceOf (c .told .energies));
-      flag = c .told .flag;
+      count = not (eqb (length (c .arguments .energies)) (m .elements i));
+      bad = notFinite (c .arguments .energies);
+      idle = idle (complianceOf (c .arguments .energies));
+      flag = c .arguments .heard .flag;
     }
 
 -- lists that suffice
 abbrev pub Suffices : State → Sizes → Lists → Type 0
-Suffices s k l = Enough (s .elements) (s .entries) (s .«max_iterations») (sizesOf (k .work) (lend k l))
+Suffices s k l = Enough (s .setting .elements) (s .setting .entries) (s .setting .«max_iterations») (sizesOf (k .work) (lend k l))
 
 pub suffices : (l₀ : Lists) (r : Run) (s : State) (l : Lists) (c : Call) → Sim l₀ r s l → checksOf r (fed l₀ c) .short ≡ false → Suffices s (c .lent) l
 unfolding checksAt
@@ -148,8 +148,8 @@ back-same k l =
 
 -- the lists that are only read are as they were, whatever is written into the others
 pub back-read : (k : Sizes) (l : Lists) (design density last : List Float) (history : List Iteration)
-    → giveBack (recordedLists (lend k l) design density last history) l
-    ≡ recordedLists l (overlay design (l .design)) (overlay density (l .density)) (overlay last (l .last)) (overlay history (l .history))
+    → giveBack (writtenLists (lend k l) design density last history) l
+    ≡ writtenLists l (overlay design (l .design)) (overlay density (l .density)) (overlay last (l .last)) (overlay history (l .history))
 back-read k l design density last history =
     λ i. record {
       volumes = overlay-part (k .volumes) (l .volumes) i;
@@ -165,9 +165,9 @@ back-read k l design density last history =
 
 pub sizes-back : (l l₀ : Lists) (design density last : List Float) (history : List Iteration) → sizesOf [] l ≡ sizesOf [] l₀
     → length design ≡ length (l .design) → length density ≡ length (l .density) → length last ≡ length (l .last) → length history ≡ length (l .history)
-    → sizesOf [] (recordedLists l design density last history) ≡ sizesOf [] l₀
+    → sizesOf [] (writtenLists l design density last history) ≡ sizesOf [] l₀
 sizes-back l l₀ design density last history e a b c d =
-    let step : sizesOf [] (recordedLists l design density last history) ≡ sizesOf [] l =
+    let step : sizesOf [] (writtenLists l design density last history) ≡ sizesOf [] l =
     λ i. record { volumes = length (l .volumes); passive = length (l .passive); starts = length (l .starts); near = length (l .near); coef = length (l .coef); design = a i; density = b i; last = c i; history = d i; work = [] } in
     step ∙ e
 
@@ -182,31 +182,31 @@ lent-case : (s : State) (k : Sizes) (l : Lists) → Suffices s k l → caseFrom 
 unfolding caseFrom
 lent-case s k l h =
     λ i. record {
-      volumes = take-part (s .elements) (k .volumes) (l .volumes) (h .volumes) i;
-      passive = take-part (s .elements) (k .passive) (l .passive) (h .passive) i;
-      starts = take-part (suc (s .elements)) (k .starts) (l .starts) (h .room .starts) i;
-      near = take-part (s .entries) (k .near) (l .near) (h .near) i;
-      coef = take-part (s .entries) (k .coef) (l .coef) (h .coef) i;
-      fraction = s .fraction;
-      sharpen = s .sharpen;
+      volumes = take-part (s .setting .elements) (k .volumes) (l .volumes) (h .volumes) i;
+      passive = take-part (s .setting .elements) (k .passive) (l .passive) (h .passive) i;
+      starts = take-part (suc (s .setting .elements)) (k .starts) (l .starts) (h .room .starts) i;
+      near = take-part (s .setting .entries) (k .near) (l .near) (h .near) i;
+      coef = take-part (s .setting .entries) (k .coef) (l .coef) (h .coef) i;
+      fraction = s .setting .fraction;
+      sharpen = s .setting .sharpen;
     }
 
 pub record Reads (r : Run) (s : State) (l : Lists) : Type 0 where
   pub case : caseFrom s l ≡ caseOf (r .given)
-  pub steep : steepAt (s .stage) ≡ r .steep
+  pub steep : steepAt (s .progress .stage) ≡ r .steep
   pub design : designIn s l ≡ r .design
-  pub long : length (r .design) ≡ s .elements
-  pub sharpen : s .sharpen ≡ r .given .goal .sharpen
+  pub long : length (r .design) ≡ s .setting .elements
+  pub sharpen : s .setting .sharpen ≡ r .given .goal .sharpen
 
-sharpen-is : (r : Run) (s : State) (l : Lists) → caseFrom s l ≡ caseOf (r .given) → s .sharpen ≡ r .given .goal .sharpen
+sharpen-is : (r : Run) (s : State) (l : Lists) → caseFrom s l ≡ caseOf (r .given) → s .setting .sharpen ≡ r .given .goal .sharpen
 unfolding caseFrom caseOf
 sharpen-is r s l e = ap (λ (c : Case). c .sharpen) e
 
-pub reads : (l₀ : Lists) (r : Run) (s : State) (k : Sizes) (l : Lists) → Sim l₀ r s l → Suffices s k l → s .stage ≡ stageOf (r .steep) → Reads r s (lend k l)
+pub reads : (l₀ : Lists) (r : Run) (s : State) (k : Sizes) (l : Lists) → Sim l₀ r s l → Suffices s k l → s .progress .stage ≡ stageOf (r .steep) → Reads r s (lend k l)
 reads l₀ r s k l m h e =
-    let d = take-part (s .elements) (k .design) (l .design) (h .room .design) in
-    let b : s .elements ≤ length (take (k .design) (l .design)) = h .room .design in
-    let n : length (take (s .elements) (take (k .design) (l .design))) ≡ min (s .elements) (length (take (k .design) (l .design))) = length-take (s .elements) (take (k .design) (l .design)) in
+    let d = take-part (s .setting .elements) (k .design) (l .design) (h .room .design) in
+    let b : s .setting .elements ≤ length (take (k .design) (l .design)) = h .room .design in
+    let n : length (take (s .setting .elements) (take (k .design) (l .design))) ≡ min (s .setting .elements) (length (take (k .design) (l .design))) = length-take (s .setting .elements) (take (k .design) (l .design)) in
     record {
       case = lent-case s k l h ∙ m .case;
       steep = steep-at s (r .steep) e;
@@ -216,11 +216,11 @@ reads l₀ r s k l m h e =
     }
 
 -- a round's record and design are the plain run's
-pub record Solved (r : Run) (s : State) (a : Told) (l : Lists) : Type 0 where
+pub record Solved (r : Run) (s : State) (a : Arguments) (l : Lists) : Type 0 where
   pub update : updateIn s a l ≡ updateAt (caseOf (r .given)) (r .steep) (r .design) (askedOf r) (a .energies)
   pub entry : recordIn s a l ≡ recordAt (caseOf (r .given)) (r .steep) (r .design) (askedOf r) (a .energies) (suc (length (r .rows)))
 
-pub solved : (r : Run) (s : State) (a : Told) (l : Lists) → Reads r s l → densityIn s l ≡ askedOf r → s .rounds ≡ length (r .rows) → Solved r s a l
+pub solved : (r : Run) (s : State) (a : Arguments) (l : Lists) → Reads r s l → densityIn s l ≡ askedOf r → s .progress .rounds ≡ length (r .rows) → Solved r s a l
 solved r s a l d q e =
     record {
       update = λ i. updateAt (d .case i) (d .steep i) (d .design i) (q i) (a .energies);
@@ -228,11 +228,11 @@ solved r s a l d q e =
     }
 
 -- the stops' tests are the same
-pub stops-same : (l₀ : Lists) (r : Run) (s : State) (l : Lists) (c : Call) → Sim l₀ r s l → Reads r s (lend (c .lent) l) → Solved r s (c .told) (lend (c .lent) l) → Running (r .given .goal .sharpen) (r .steep) (r .rows) s
-    → stopsAt s (c .told) (recordIn s (c .told) (lend (c .lent) l)) ≡ stopsOf (updated r (c .told .energies)) (fed l₀ c)
+pub stops-same : (l₀ : Lists) (r : Run) (s : State) (l : Lists) (c : Call) → Sim l₀ r s l → Reads r s (lend (c .lent) l) → Solved r s (c .arguments) (lend (c .lent) l) → Running (r .given .goal .sharpen) (r .steep) (r .rows) s
+    → stopsAt s (c .arguments .heard) (recordIn s (c .arguments) (lend (c .lent) l)) ≡ stopsOf (updated r (c .arguments .energies)) (fed l₀ c)
 unfolding stopsAt
 stops-same l₀ r s l c m d o g =
-    let e = recordIn s (c .told) (lend (c .lent) l) in
+    let e = recordIn s (c .arguments) (lend (c .lent) l) in
     let t : steadyAt s (e .compliance) ≡ steadyRun (r .given .goal .sharpen) (rowOf (r .steep) e ∷ r .rows) = steady-on (r .given .goal .sharpen) (r .steep) e (r .rows) s (d .sharpen) g in
     let t′ = t ∙ (λ i. steadyRun (r .given .goal .sharpen) (rowOf (r .steep) (o .entry i) ∷ r .rows)) in
     λ i. record {
@@ -240,6 +240,6 @@ stops-same l₀ r s l c m d o g =
       small = small (o .entry i .change);
       levelled = leb 5 (t′ i);
       limit = leb (m .limit i) (suc (m .rounds i));
-      budget = leb (c .told .allowed) (c .told .elapsed);
-      flag = c .told .flag;
+      budget = leb (c .arguments .heard .allowed) (c .arguments .heard .elapsed);
+      flag = c .arguments .heard .flag;
     }

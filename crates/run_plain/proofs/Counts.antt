@@ -93,18 +93,18 @@ climbs-on sharpen b b′ e rows c (stays t q) = record { later = λ d h. count-o
 
 -- ---- the counts
 pub record Running (sharpen : Bool) (b : Steep) (rows : List Row) (s : State) : Type 0 where
-  pub stage : s .stage ≡ stageOf b
-  pub turns : s .«at_stage» ≡ choose (sharpest sharpen b) 0 (countAt b rows)
-  pub few : s .«at_stage» < 20
-  pub steady : s .steady ≡ steadyRun sharpen rows
-  pub calm : s .steady < 5
+  pub stage : s .progress .stage ≡ stageOf b
+  pub turns : s .progress .«at_stage» ≡ choose (sharpest sharpen b) 0 (countAt b rows)
+  pub few : s .progress .«at_stage» < 20
+  pub steady : s .progress .steady ≡ steadyRun sharpen rows
+  pub calm : s .progress .steady < 5
   pub before : (w : Float) → levelAt s w ≡ levelWith rows w
 
-pub steep-at : (s : State) (b : Steep) → s .stage ≡ stageOf b → steepAt (s .stage) ≡ b
+pub steep-at : (s : State) (b : Steep) → s .progress .stage ≡ stageOf b → steepAt (s .progress .stage) ≡ b
 steep-at s b e = rw e (steep-stage b)
 
 -- the steady count of the state, with a record more, is that of the records
-pub steady-on : (sharpen : Bool) (b : Steep) (e : Iteration) (rows : List Row) (s : State) → s .sharpen ≡ sharpen → Running sharpen b rows s
+pub steady-on : (sharpen : Bool) (b : Steep) (e : Iteration) (rows : List Row) (s : State) → s .setting .sharpen ≡ sharpen → Running sharpen b rows s
     → steadyAt s (e .compliance) ≡ steadyRun sharpen (rowOf b e ∷ rows)
 unfolding steadyAt steadyRun
 steady-on sharpen b e rows s h r = rw (r .before (e .compliance), steep-at s b (r .stage), r .steady, h)
@@ -176,14 +176,14 @@ onward sharpen b rows e stage turns c hs ht false false et ed true ed′ =
     let k : countAt b (rowOf b e ∷ rows) ≡ suc (countAt b rows) = count-here b e rows in
     absurd (let z : _≡_ {A = ℕ} 0 1 = cc in omega arith)
 
-pub onward-at : (sharpen : Bool) (b : Steep) (rows : List Row) (e : Iteration) (s : State) → s .sharpen ≡ sharpen → Climbs b rows → Running sharpen b rows s
+pub onward-at : (sharpen : Bool) (b : Steep) (rows : List Row) (e : Iteration) (s : State) → s .setting .sharpen ≡ sharpen → Climbs b rows → Running sharpen b rows s
     → Counted sharpen (dueSteep sharpen b (rowOf b e ∷ rows)) (rowOf b e ∷ rows) (stageAfter s e) (turnsAfter s e)
 unfolding stageAfter turnsAfter dueAt dueSteep
 onward-at sharpen b rows e s h c r =
-    rw (steep-at s b (r .stage), h) (onward sharpen b rows e (s .stage) (s .«at_stage») c (r .stage) (r .turns) (sharpest sharpen b) _ refl refl _ refl)
+    rw (steep-at s b (r .stage), h) (onward sharpen b rows e (s .progress .stage) (s .progress .«at_stage») c (r .stage) (r .turns) (sharpest sharpen b) _ refl refl _ refl)
 
 -- the counts of a state after a round that does not stop
-pub running-on : (sharpen : Bool) (b : Steep) (rows : List Row) (e : Iteration) (s : State) → s .sharpen ≡ sharpen → Climbs b rows → Running sharpen b rows s
+pub running-on : (sharpen : Bool) (b : Steep) (rows : List Row) (e : Iteration) (s : State) → s .setting .sharpen ≡ sharpen → Climbs b rows → Running sharpen b rows s
     → (sharpest sharpen b && leb 5 (steadyAt s (e .compliance))) ≡ false
     → Running sharpen (dueSteep sharpen b (rowOf b e ∷ rows)) (rowOf b e ∷ rows) (onwardState s e)
 unfolding levelAt levelWith choose steadyRun
@@ -196,7 +196,7 @@ running-on sharpen b rows e s h c r g =
       few = o .few;
       steady = q;
       calm = calm-on (sharpest sharpen b) (levelWith rows (e .compliance)) (steadyAt s (e .compliance)) (suc (steadyRun sharpen rows)) g q;
-      before = λ w. rw (lt-ltb 0 (suc (s .rounds)) (omega arith));
+      before = λ w. rw (lt-ltb 0 (suc (s .progress .rounds)) (omega arith));
     }
 
 pub climbs-same : (b : Steep) (e : Iteration) (rows : List Row) → Climbs b rows → Climbs b (rowOf b e ∷ rows)

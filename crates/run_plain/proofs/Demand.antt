@@ -8,7 +8,7 @@ use Rattle.run_plain.specs.declared.State.{State}
 use Rattle.run_plain.specs.Lent.{Sizes, answerShort}
 use Rattle.run_plain.specs.Plain.{Part, nothing, solid, round, Checks, judged}
 use Rattle.run_plain.specs.Runs.{recordedIn}
-use Rattle.run_plain.specs.Calls.{Lists, Told, Result, sizesOf, partOf, checksAt, answerBy, answerOf, Asked, World, Call, NoRun}
+use Rattle.run_plain.specs.Calls.{Lists, Arguments, Result, sizesOf, partOf, checksAt, answerBy, answerOf, Asked, World, Call, NoRun}
 use Rattle.run_plain.specs.Demand.{OpenedRun, AnyPart, Demand}
 use Rattle.run_plain.proofs.Whole.{whole, opened-stands, refused-stands}
 use Rattle.run_plain.proofs.Runs.{opened-run}
@@ -30,7 +30,7 @@ demand w k g more h =
     }
 
 -- ---- a list lent too short
-module _ (s : State) (a : Told) (l l′ : Lists) where
+module _ (s : State) (a : Arguments) (l l′ : Lists) where
   -- both are refused with 20, or both with 14
   short-keeps : (p : Part) (c c′ : Checks) → c .short ≡ true → c′ .short ≡ true
       → (answerBy s a l′ (judged p c′) .reply ≡ answerBy s a l (judged p c) .reply) × (answerBy s a l′ (judged p c′) .state ≡ s) × (answerBy s a l′ (judged p c′) .lists ≡ l′)
@@ -39,9 +39,9 @@ module _ (s : State) (a : Told) (l l′ : Lists) where
   short-keeps solid c c′ e e′ = rw (e, e′) (refl, refl, refl)
   short-keeps (round n) c c′ e e′ = rw (e, e′) (refl, refl, refl)
 
-  pub any-part : (work : List ℕ) → sizesOf work l′ ≡ sizesOf work l → answerShort (s .elements) (s .entries) (s .«max_iterations») (sizesOf work l) ≡ true → AnyPart s a work l l′
+  pub any-part : (work : List ℕ) → sizesOf work l′ ≡ sizesOf work l → answerShort (s .setting .elements) (s .setting .entries) (s .setting .«max_iterations») (sizesOf work l) ≡ true → AnyPart s a work l l′
   unfolding answerOf checksAt
   any-part work e h =
-      let h′ = subst (λ (k : Sizes). answerShort (s .elements) (s .entries) (s .«max_iterations») k ≡ true) (sym e) h in
+      let h′ = subst (λ (k : Sizes). answerShort (s .setting .elements) (s .setting .entries) (s .setting .«max_iterations») k ≡ true) (sym e) h in
       let t = short-keeps (partOf s) (checksAt s a (sizesOf work l)) (checksAt s a (sizesOf work l′)) h h′ in
       record { reply = t .0; state = t .1; lists = t .2 }

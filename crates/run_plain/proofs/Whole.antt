@@ -26,11 +26,12 @@ use Rattle.run_plain.specs.declared.Course.the-variants.{Onward, Ends}
 use Rattle.run_plain.specs.declared.Entry.{Entry}
 use Rattle.run_plain.specs.declared.Entry.the-variants.{Kept as KeptOut, Zeroed, Shut, Opens}
 use Rattle.run_plain.specs.declared.State.{State}
+use Rattle.run_plain.specs.declared.Heard.{Heard}
 use Rattle.run_plain.specs.Lent.{Sizes}
 use Rattle.run_plain.specs.Formulas.{Steep, s1, ones, see, recordAt}
 use Rattle.run_plain.specs.Opening.{Opening, elements, startsOf, nearOf, coefOf, caseOf, startOf, entryOf}
 use Rattle.run_plain.specs.Plain.{Part, nothing, solid, round, refused, asks, stops, unopened, shown, Seen, Row, judged, firstStop, sharpest, countAt, levelWith, steadyRun, dueSteep, Run, ended, plainStart, askedOf, asking, withWork, updated, stopsOf, onward, checksOf, after, answered, runFrom, plainFrom, plainShut, plainOpen, plainRun}
-use Rattle.run_plain.specs.Calls.{endedOf, Lists, Told, Result, sizesOf, steepAt, sound, partOf, caseFrom, designIn, densityIn, checksAt, keeps, firstAsked, updateIn, recordIn, levelAt, steadyAt, stopsAt, stageAfter, turnsAfter, onwardState, solvedLists, solvedBy, answerBy, answerOf, Asked, openingOf, openedState, openBy, inTurn, openOf, World, lend, giveBack, Call, worldAfter, outOf, callsFrom, callsShut, callsBy, callsRun, fed, NoRun, worldOpen, worldFrom}
+use Rattle.run_plain.specs.Calls.{endedOf, Lists, Arguments, Result, sizesOf, steepAt, sound, partOf, caseFrom, designIn, densityIn, checksAt, keeps, firstAsked, updateIn, recordIn, levelAt, steadyAt, stopsAt, stageAfter, turnsAfter, onwardState, solvedLists, solvedBy, answerBy, answerOf, Asked, openingOf, openedState, openBy, inTurn, openOf, World, lend, giveBack, Call, worldAfter, outOf, callsFrom, callsShut, callsBy, callsRun, fed, NoRun, worldOpen, worldFrom}
 use Rattle.run_plain.specs.Demand.{Stands}
 use Rattle.run_plain.proofs.Parts.{take-part, take-overlay, overlay-part, Renewed, renewed, Added, added}
 use Rattle.run_plain.proofs.Formulas.{Ready, ready, length-ones, length-start, length-see, length-update}
@@ -53,26 +54,26 @@ is-halted : (l₀ : Lists) (r : Run) (s : State) (l : Lists) (k : Sizes) → Sim
     → Alike l₀ l (record { state = endedOf s; reply = StopReply Stopped; lists = lend k l }) (record { run = ended r; out = stops Stopped (r .last) })
 is-halted l₀ r s l k m h e =
     record {
-      out = ap (stops Stopped) (take-part (s .elements) (k .last) (l .last) (h .room .last) ∙ last-is (r .rows) _ _ e (m .last));
+      out = ap (stops Stopped) (take-part (s .setting .elements) (k .last) (l .last) (h .room .last) ∙ last-is (r .rows) _ _ e (m .last));
       sim = subst (Sim l₀ (ended r) (endedOf s)) (sym (back-same k l)) (sim-ended l₀ r s l m);
     }
 
 -- ---- the solid part solved
 -- as many places as there are elements
-see-long : (l₀ : Lists) (r : Run) (s : State) (l : Lists) (b : Steep) (x : List Float) → Sim l₀ r s l → length (see (caseOf (r .given)) b x) ≡ s .elements
+see-long : (l₀ : Lists) (r : Run) (s : State) (l : Lists) (b : Steep) (x : List Float) → Sim l₀ r s l → length (see (caseOf (r .given)) b x) ≡ s .setting .elements
 unfolding caseOf
 see-long l₀ r s l b x m = length-see (caseOf (r .given)) b x ∙ m .ready .passive ∙ sym (m .elements)
 
-is-begun : (l₀ : Lists) (r : Run) (s : State) (l : Lists) (k : Sizes) (a : Told) → Sim l₀ r s l → Suffices s k l → r .part ≡ solid
+is-begun : (l₀ : Lists) (r : Run) (s : State) (l : Lists) (k : Sizes) (a : Arguments) → Sim l₀ r s l → Suffices s k l → r .part ≡ solid
     → Alike l₀ l (firstAsked s a (lend k l)) (asking (withWork r (complianceOf (a .energies))) 1 (r .steep))
 unfolding caseFrom levelAt
 is-begun l₀ r s l k a m h p =
     let f : (s .phase ≡ Solid) × (r .rows ≡ []) × Running (r .given .goal .sharpen) (r .steep) (r .rows) s = subst (λ (x : Part). Fits x r s) p (m .fits) in
     let d : Reads r s (lend k l) = reads l₀ r s k l m h (f .2 .stage) in
-    let new = see (caseFrom s (lend k l)) (steepAt (s .stage)) (designIn s (lend k l)) in
+    let new = see (caseFrom s (lend k l)) (steepAt (s .progress .stage)) (designIn s (lend k l)) in
     let new′ = askedOf r in
     let e : new ≡ new′ = λ i. see (d .case i) (d .steep i) (d .design i) in
-    let n : Renewed (s .elements) (k .density) new new′ (l .density) = renewed (s .elements) (k .density) new new′ (l .density) e (see-long l₀ r s l (r .steep) (r .design) m) (h .room .density) in
+    let n : Renewed (s .setting .elements) (k .density) new new′ (l .density) = renewed (s .setting .elements) (k .density) new new′ (l .density) e (see-long l₀ r s l (r .steep) (r .design) m) (h .room .density) in
     let dl = overlay (take (k .design) (l .design)) (l .design) in
     let sl = overlay (overlay new (take (k .density) (l .density))) (l .density) in
     let ll = overlay (take (k .last) (l .last)) (l .last) in
@@ -107,22 +108,22 @@ recordedRun r energies b p = record { given = r .given; part = p; design = updat
 
 abbrev recordedWith : State → Phase → ℕ → ℕ → ℕ → Float → State
 recordedWith s ph st tu sy w =
-    record { phase = ph; elements = s .elements; entries = s .entries; fraction = s .fraction; sharpen = s .sharpen; «max_iterations» = s .«max_iterations»; rounds = suc (s .rounds); stage = st; «at_stage» = tu; steady = sy; «solid_compliance» = s .«solid_compliance»; compliance = w }
+    record { phase = ph; setting = s .setting; progress = record { rounds = suc (s .progress .rounds); stage = st; «at_stage» = tu; steady = sy }; compliances = record { solid = s .compliances .solid; last = w } }
 
 -- the densities that were asked for are laid over those of the last record's round
 last-renewed : (r : Run) (s : State) (l : Lists) (k : Sizes) → Suffices s k l → densityIn s (lend k l) ≡ askedOf r
-    → Renewed (s .elements) (k .last) (densityIn s (lend k l)) (askedOf r) (l .last)
+    → Renewed (s .setting .elements) (k .last) (densityIn s (lend k l)) (askedOf r) (l .last)
 last-renewed r s l k h q =
     let x = densityIn s (lend k l) in
-    let lx : length x ≡ min (s .elements) (length (take (k .density) (l .density))) = length-take (s .elements) (take (k .density) (l .density)) in
-    let hx : s .elements ≤ length (take (k .density) (l .density)) = h .room .density in
-    let ln : length (askedOf r) ≡ s .elements = ap length (sym q) ∙ omega arith in
-    renewed (s .elements) (k .last) x (askedOf r) (l .last) q ln (h .room .last)
+    let lx : length x ≡ min (s .setting .elements) (length (take (k .density) (l .density))) = length-take (s .setting .elements) (take (k .density) (l .density)) in
+    let hx : s .setting .elements ≤ length (take (k .density) (l .density)) = h .room .density in
+    let ln : length (askedOf r) ≡ s .setting .elements = ap length (sym q) ∙ omega arith in
+    renewed (s .setting .elements) (k .last) x (askedOf r) (l .last) q ln (h .room .last)
 
 -- the state and the lists after a round is recorded, whatever part of `density` is written
-is-recorded : (l₀ : Lists) (r : Run) (s : State) (l : Lists) (k : Sizes) (a : Told) (ph : Phase) (st tu sy : ℕ) (w : Float) (b : Steep) (p : Part) (density : List Float)
-    → Sim l₀ r s l → Suffices s k l → Reads r s (lend k l) → densityIn s (lend k l) ≡ askedOf r → s .rounds < s .«max_iterations»
-    → AskedFits p (take (s .elements) (overlay density (l .density))) (askedOf (recordedRun r (a .energies) b p)) → length (overlay density (l .density)) ≡ length (l .density)
+is-recorded : (l₀ : Lists) (r : Run) (s : State) (l : Lists) (k : Sizes) (a : Arguments) (ph : Phase) (st tu sy : ℕ) (w : Float) (b : Steep) (p : Part) (density : List Float)
+    → Sim l₀ r s l → Suffices s k l → Reads r s (lend k l) → densityIn s (lend k l) ≡ askedOf r → s .progress .rounds < s .setting .«max_iterations»
+    → AskedFits p (take (s .setting .elements) (overlay density (l .density))) (askedOf (recordedRun r (a .energies) b p)) → length (overlay density (l .density)) ≡ length (l .density)
     → Fits p (recordedRun r (a .energies) b p) (recordedWith s ph st tu sy w) → Climbs b (updated r (a .energies) .rows)
     → Sim l₀ (recordedRun r (a .energies) b p) (recordedWith s ph st tu sy w) (giveBack (solvedLists s a (lend k l) density) l)
 unfolding caseFrom
@@ -132,18 +133,18 @@ is-recorded l₀ r s l k a ph st tu sy w b p density m h d q lt hq hs f c =
     let u′ = updated r (a .energies) .design in
     let x = densityIn s (lend k l) in
     let e = recordIn s a (lend k l) in
-    let nd : Renewed (s .elements) (k .design) u u′ (l .design) =
-    renewed (s .elements) (k .design) u u′ (l .design) (ap (λ (v : Search). v .design) (o .update)) (length-update _ _ _ _ _ ∙ d .long) (h .room .design) in
-    let nl : Renewed (s .elements) (k .last) x (askedOf r) (l .last) = last-renewed r s l k h q in
-    let hh : s .«max_iterations» ≤ length (take (k .history) (l .history)) = h .room .history in
-    let nh : Added (s .rounds) (k .history) e (l .history) = added (s .rounds) (k .history) e (l .history) (omega arith) in
-    subst (Sim l₀ (recordedRun r (a .energies) b p) (recordedWith s ph st tu sy w)) (sym (back-read k l (overlay u (take (k .design) (l .design))) density (overlay x (take (k .last) (l .last))) (set (take (k .history) (l .history)) (s .rounds) e)))
+    let nd : Renewed (s .setting .elements) (k .design) u u′ (l .design) =
+    renewed (s .setting .elements) (k .design) u u′ (l .design) (ap (λ (v : Stand). v .design) (o .update)) (length-update _ _ _ _ _ ∙ d .long) (h .room .design) in
+    let nl : Renewed (s .setting .elements) (k .last) x (askedOf r) (l .last) = last-renewed r s l k h q in
+    let hh : s .setting .«max_iterations» ≤ length (take (k .history) (l .history)) = h .room .history in
+    let nh : Added (s .progress .rounds) (k .history) e (l .history) = added (s .progress .rounds) (k .history) e (l .history) (omega arith) in
+    subst (Sim l₀ (recordedRun r (a .energies) b p) (recordedWith s ph st tu sy w)) (sym (back-read k l (overlay u (take (k .design) (l .design))) density (overlay x (take (k .last) (l .last))) (set (take (k .history) (l .history)) (s .progress .rounds) e)))
     (record {
       ready = m .ready;
       elements = m .elements;
       entries = m .entries;
       limit = m .limit;
-      sizes = sizes-back l l₀ (overlay (overlay u (take (k .design) (l .design))) (l .design)) (overlay density (l .density)) (overlay (overlay x (take (k .last) (l .last))) (l .last)) (overlay (set (take (k .history) (l .history)) (s .rounds) e) (l .history))
+      sizes = sizes-back l l₀ (overlay (overlay u (take (k .design) (l .design))) (l .design)) (overlay density (l .density)) (overlay (overlay x (take (k .last) (l .last))) (l .last)) (overlay (set (take (k .history) (l .history)) (s .progress .rounds) e) (l .history))
           (m .sizes) (nd .long) hs (nl .long) (nh .long);
       case = m .case;
       design = nd .whole;
@@ -156,18 +157,18 @@ is-recorded l₀ r s l k a ph st tu sy w b p density m h d q lt hq hs f c =
       climbs = c;
     })
 
-is-stopped : (l₀ : Lists) (r : Run) (s : State) (l : Lists) (k : Sizes) (a : Told) (why : Stop) → Sim l₀ r s l → Suffices s k l → Reads r s (lend k l) → densityIn s (lend k l) ≡ askedOf r → s .rounds < s .«max_iterations»
+is-stopped : (l₀ : Lists) (r : Run) (s : State) (l : Lists) (k : Sizes) (a : Arguments) (why : Stop) → Sim l₀ r s l → Suffices s k l → Reads r s (lend k l) → densityIn s (lend k l) ≡ askedOf r → s .progress .rounds < s .setting .«max_iterations»
     → Alike l₀ l (solvedBy s a (lend k l) (Ends why)) (onward (updated r (a .energies)) (Ends why))
 is-stopped l₀ r s l k a why m h d q lt =
     record {
       out = ap (stops why) (last-renewed r s l k h q .part);
-      sim = is-recorded l₀ r s l k a Idle (s .stage) (s .«at_stage») (s .steady) (recordIn s a (lend k l) .compliance) (r .steep) nothing (take (k .density) (l .density)) m h d q lt
+      sim = is-recorded l₀ r s l k a Idle (s .progress .stage) (s .progress .«at_stage») (s .progress .steady) (recordIn s a (lend k l) .compliance) (r .steep) nothing (take (k .density) (l .density)) m h d q lt
           tt (ap length (overlay-part (k .density) (l .density))) refl (climbs-same (r .steep) _ (r .rows) (m .climbs));
     }
 
-is-onward : (l₀ : Lists) (r : Run) (s : State) (l : Lists) (k : Sizes) (a : Told) → Sim l₀ r s l → Suffices s k l → Reads r s (lend k l) → densityIn s (lend k l) ≡ askedOf r
-    → Running (r .given .goal .sharpen) (r .steep) (r .rows) s → s .rounds < s .«max_iterations»
-    → (sharpest (s .sharpen) (steepAt (s .stage)) && leb 5 (steadyAt s (recordIn s a (lend k l) .compliance))) ≡ false → leb (s .«max_iterations») (suc (s .rounds)) ≡ false
+is-onward : (l₀ : Lists) (r : Run) (s : State) (l : Lists) (k : Sizes) (a : Arguments) → Sim l₀ r s l → Suffices s k l → Reads r s (lend k l) → densityIn s (lend k l) ≡ askedOf r
+    → Running (r .given .goal .sharpen) (r .steep) (r .rows) s → s .progress .rounds < s .setting .«max_iterations»
+    → (sharpest (s .setting .sharpen) (steepAt (s .progress .stage)) && leb 5 (steadyAt s (recordIn s a (lend k l) .compliance))) ≡ false → leb (s .setting .«max_iterations») (suc (s .progress .rounds)) ≡ false
     → Alike l₀ l (solvedBy s a (lend k l) Onward) (onward (updated r (a .energies)) Onward)
 is-onward l₀ r s l k a m h d q g lt hl hr =
     let o : Solved r s a (lend k l) = solved r s a (lend k l) d q (m .rounds) in
@@ -178,28 +179,28 @@ is-onward l₀ r s l k a m h d q g lt hl hr =
     let qn = see (caseOf (r .given)) b′ (updated r (a .energies) .design) in
     let n = suc (suc (length (r .rows))) in
     let hl′ : (sharpest f (r .steep) && leb 5 (steadyAt s (e′ .compliance))) ≡ false = subst (λ (z : Bool). z ≡ false) (λ i. sharpest (d .sharpen i) (d .steep i) && leb 5 (steadyAt s (o .entry i .compliance))) hl in
-    let z : suc (s .rounds) < s .«max_iterations» = leb-false _ _ hr in
-    let zd : s .rounds ≡ length (r .rows) = m .rounds in
-    let zr : s .«max_iterations» ≡ r .given .goal .«max_iterations» = m .limit in
+    let z : suc (s .progress .rounds) < s .setting .«max_iterations» = leb-false _ _ hr in
+    let zd : s .progress .rounds ≡ length (r .rows) = m .rounds in
+    let zr : s .setting .«max_iterations» ≡ r .given .goal .«max_iterations» = m .limit in
     let w : Running f b′ (rowOf (r .steep) e′ ∷ r .rows) (onwardState s e′) = running-on f (r .steep) (r .rows) e′ s (d .sharpen) (m .climbs) g hl′ in
     let w′ : Running f b′ (rowOf (r .steep) e′ ∷ r .rows) (onwardState s e) = subst (λ (x : Iteration). Running f b′ (rowOf (r .steep) e′ ∷ r .rows) (onwardState s x)) (sym (o .entry)) w in
     let sb : steepAt (stageAfter s e) ≡ b′ = steep-at (onwardState s e) b′ (w′ .stage) in
     let new = see (caseFrom s (lend k l)) (steepAt (stageAfter s e)) (updateIn s a (lend k l) .design) in
     let en : new ≡ qn = λ i. see (d .case i) (sb i) (o .update i .design) in
-    let nn : Renewed (s .elements) (k .density) new qn (l .density) = renewed (s .elements) (k .density) new qn (l .density) en (see-long l₀ r s l b′ (updated r (a .energies) .design) m) (h .room .density) in
+    let nn : Renewed (s .setting .elements) (k .density) new qn (l .density) = renewed (s .setting .elements) (k .density) new qn (l .density) en (see-long l₀ r s l b′ (updated r (a .energies) .design) m) (h .room .density) in
     record {
       out = (λ i. asks (round (suc (suc (m .rounds i)))) (nn .part i));
       sim = is-recorded l₀ r s l k a Round (stageAfter s e) (turnsAfter s e) (steadyAt s (e .compliance)) (e .compliance) b′ (round n) (overlay new (take (k .density) (l .density))) m h d q lt
           (nn .whole) (nn .long) (refl, refl, omega arith, w′) (climbs-on f (r .steep) b′ e′ (r .rows) (m .climbs) (moved f (r .steep) (rowOf (r .steep) e′ ∷ r .rows)));
     }
 
-goes-at : (s : State) (a : Told) (e : Iteration) → firstStop (stopsAt s a e) ≡ Onward → ((sharpest (s .sharpen) (steepAt (s .stage)) && leb 5 (steadyAt s (e .compliance))) ≡ false) × (leb (s .«max_iterations») (suc (s .rounds)) ≡ false)
+goes-at : (s : State) (a : Heard) (e : Iteration) → firstStop (stopsAt s a e) ≡ Onward → ((sharpest (s .setting .sharpen) (steepAt (s .progress .stage)) && leb 5 (steadyAt s (e .compliance))) ≡ false) × (leb (s .setting .«max_iterations») (suc (s .progress .rounds)) ≡ false)
 unfolding stopsAt
 goes-at s a e h = let g = goes-on (stopsAt s a e) h in (g .levelled, g .limit)
 
 is-solved : (l₀ : Lists) (r : Run) (s : State) (l : Lists) (c : Call) (n : ℕ) → Sim l₀ r s l → Suffices s (c .lent) l → r .part ≡ round n
-    → Alike l₀ l (answerBy s (c .told) (lend (c .lent) l) Solves) (after r (fed l₀ c) Solves)
-is-solved l₀ r s l c n m h p = go (firstStop (stopsOf (updated r (c .told .energies)) (fed l₀ c))) refl
+    → Alike l₀ l (answerBy s (c .arguments) (lend (c .lent) l) Solves) (after r (fed l₀ c) Solves)
+is-solved l₀ r s l c n m h p = go (firstStop (stopsOf (updated r (c .arguments .energies)) (fed l₀ c))) refl
   where
     f : (s .phase ≡ Round) × (n ≡ suc (length (r .rows))) × (length (r .rows) < r .given .goal .«max_iterations») × Running (r .given .goal .sharpen) (r .steep) (r .rows) s
     f = subst (λ (x : Part). Fits x r s) p (m .fits)
@@ -208,39 +209,39 @@ is-solved l₀ r s l c n m h p = go (firstStop (stopsOf (updated r (c .told .ene
     d = reads l₀ r s (c .lent) l m h (f .3 .stage)
 
     q : densityIn s (lend (c .lent) l) ≡ askedOf r
-    q = take-part (s .elements) (c .lent .density) (l .density) (h .room .density) ∙ subst (λ (x : Part). AskedFits x (densityIn s l) (askedOf r)) p (m .asked)
+    q = take-part (s .setting .elements) (c .lent .density) (l .density) (h .room .density) ∙ subst (λ (x : Part). AskedFits x (densityIn s l) (askedOf r)) p (m .asked)
 
-    lt : s .rounds < s .«max_iterations»
-    lt = let x : s .rounds ≡ length (r .rows) = m .rounds in let y : s .«max_iterations» ≡ r .given .goal .«max_iterations» = m .limit in let z : length (r .rows) < r .given .goal .«max_iterations» = f .2 in omega arith
+    lt : s .progress .rounds < s .setting .«max_iterations»
+    lt = let x : s .progress .rounds ≡ length (r .rows) = m .rounds in let y : s .setting .«max_iterations» ≡ r .given .goal .«max_iterations» = m .limit in let z : length (r .rows) < r .given .goal .«max_iterations» = f .2 in omega arith
 
-    t : stopsAt s (c .told) (recordIn s (c .told) (lend (c .lent) l)) ≡ stopsOf (updated r (c .told .energies)) (fed l₀ c)
-    t = stops-same l₀ r s l c m d (solved r s (c .told) (lend (c .lent) l) d q (m .rounds)) (f .3)
+    t : stopsAt s (c .arguments .heard) (recordIn s (c .arguments) (lend (c .lent) l)) ≡ stopsOf (updated r (c .arguments .energies)) (fed l₀ c)
+    t = stops-same l₀ r s l c m d (solved r s (c .arguments) (lend (c .lent) l) d q (m .rounds)) (f .3)
 
-    go : (v : Course) → firstStop (stopsOf (updated r (c .told .energies)) (fed l₀ c)) ≡ v → Alike l₀ l (answerBy s (c .told) (lend (c .lent) l) Solves) (after r (fed l₀ c) Solves)
-    go (Ends why) e = rw (t, e) (is-stopped l₀ r s l (c .lent) (c .told) why m h d q lt)
+    go : (v : Course) → firstStop (stopsOf (updated r (c .arguments .energies)) (fed l₀ c)) ≡ v → Alike l₀ l (answerBy s (c .arguments) (lend (c .lent) l) Solves) (after r (fed l₀ c) Solves)
+    go (Ends why) e = rw (t, e) (is-stopped l₀ r s l (c .lent) (c .arguments) why m h d q lt)
     go Onward e =
-        let g = goes-at s (c .told) (recordIn s (c .told) (lend (c .lent) l)) (ap firstStop t ∙ e) in
-        rw (t, e) (is-onward l₀ r s l (c .lent) (c .told) m h d q (f .3) lt (g .0) (g .1))
+        let g = goes-at s (c .arguments .heard) (recordIn s (c .arguments) (lend (c .lent) l)) (ap firstStop t ∙ e) in
+        rw (t, e) (is-onward l₀ r s l (c .lent) (c .arguments) m h d q (f .3) lt (g .0) (g .1))
 
 -- ---- an answer
 verdict-is : (l₀ : Lists) (r : Run) (s : State) (l : Lists) (c : Call) → Sim l₀ r s l → (v : Verdict) → Told-of v (r .part) (checksOf r (fed l₀ c))
-    → Alike l₀ l (answerBy s (c .told) (lend (c .lent) l) v) (after r (fed l₀ c) v)
+    → Alike l₀ l (answerBy s (c .arguments) (lend (c .lent) l) v) (after r (fed l₀ c) v)
 unfolding checksOf
 verdict-is l₀ r s l c m (Kept n) t = is-kept l₀ r s l (c .lent) n m
 verdict-is l₀ r s l c m (Over n) t = is-over l₀ r s l (c .lent) n m
 verdict-is l₀ r s l c m Halts t = is-halted l₀ r s l (c .lent) m (suffices l₀ r s l c m (t .0)) (t .1)
-verdict-is l₀ r s l c m Begins t = is-begun l₀ r s l (c .lent) (c .told) m (suffices l₀ r s l c m (t .0)) (t .1)
+verdict-is l₀ r s l c m Begins t = is-begun l₀ r s l (c .lent) (c .arguments) m (suffices l₀ r s l c m (t .0)) (t .1)
 verdict-is l₀ r s l c m Solves t = is-solved l₀ r s l c (t .1) m (suffices l₀ r s l c m (t .0)) (t .2)
 
-pub answer-is : (l₀ : Lists) (r : Run) (s : State) (l : Lists) (c : Call) → Sim l₀ r s l → Alike l₀ l (answerOf s (c .told) (c .lent .work) (lend (c .lent) l)) (answered r (fed l₀ c))
+pub answer-is : (l₀ : Lists) (r : Run) (s : State) (l : Lists) (c : Call) → Sim l₀ r s l → Alike l₀ l (answerOf s (c .arguments) (c .lent .work) (lend (c .lent) l)) (answered r (fed l₀ c))
 unfolding answerOf answered
 answer-is l₀ r s l c m =
     let p : partOf s ≡ r .part = part-is (r .part) r s (rw (m .elements) (m .ready .few)) (m .rounds) (m .limit) (m .fits) in
-    let q : checksAt s (c .told) (sizesOf (c .lent .work) (lend (c .lent) l)) ≡ checksOf r (fed l₀ c) = checks-same l₀ r s l c m in
+    let q : checksAt s (c .arguments) (sizesOf (c .lent .work) (lend (c .lent) l)) ≡ checksOf r (fed l₀ c) = checks-same l₀ r s l c m in
     rw (p, q) (verdict-is l₀ r s l c m (judged (r .part) (checksOf r (fed l₀ c))) (told (r .part) (checksOf r (fed l₀ c))))
 
 -- with no run open an answer is out of turn
-pub refused-shut : (s : State) (a : Told) (work : List ℕ) (l : Lists) → NoRun s → answerOf s a work l ≡ keeps s 20 l
+pub refused-shut : (s : State) (a : Arguments) (work : List ℕ) (l : Lists) → NoRun s → answerOf s a work l ≡ keeps s 20 l
 unfolding answerOf partOf judged sound choose
 refused-shut s a work l h = rw h
 
@@ -249,8 +250,8 @@ from-is : (l₀ : Lists) (r : Run) (s : State) (l : Lists) (more : List Call) �
 unfolding callsFrom plainFrom
 from-is l₀ r s l [] m = refl
 from-is l₀ r s l (c ∷ more) m =
-    let a : Alike l₀ l (answerOf s (c .told) (c .lent .work) (lend (c .lent) l)) (answered r (fed l₀ c)) = answer-is l₀ r s l c m in
-    let v = worldAfter l (answerOf s (c .told) (c .lent .work) (lend (c .lent) l)) in
+    let a : Alike l₀ l (answerOf s (c .arguments) (c .lent .work) (lend (c .lent) l)) (answered r (fed l₀ c)) = answer-is l₀ r s l c m in
+    let v = worldAfter l (answerOf s (c .arguments) (c .lent .work) (lend (c .lent) l)) in
     let e : callsFrom v more ≡ plainFrom (answered r (fed l₀ c) .run) (map (fed l₀) more) = from-is l₀ _ _ _ more (a .sim) in
     λ i. record { out = a .out i; left = shown (a .sim .history i) (a .sim .design i) } ∷ e i
 
@@ -259,7 +260,7 @@ shut-is : (l₀ : Lists) (s : State) (l : Lists) (more : List Call) → NoRun s 
 unfolding callsShut plainShut
 shut-is l₀ s l [] h = refl
 shut-is l₀ s l (c ∷ more) h =
-    let e : answerOf s (c .told) (c .lent .work) (lend (c .lent) l) ≡ keeps s 20 (lend (c .lent) l) = refused-shut s (c .told) (c .lent .work) (lend (c .lent) l) h in
+    let e : answerOf s (c .arguments) (c .lent .work) (lend (c .lent) l) ≡ keeps s 20 (lend (c .lent) l) = refused-shut s (c .arguments) (c .lent .work) (lend (c .lent) l) h in
     rw e (ap (λ (t : List Seen). record { out = refused 20; left = unopened } ∷ t) (shut-is l₀ s (giveBack (lend (c .lent) l) l) more h))
 
 -- ---- an opening
@@ -276,14 +277,18 @@ unfolding choose
 choose-same true a = refl
 choose-same false a = refl
 
-fresh-counts : (f : Bool) (s : State) → s .stage ≡ 0 → s .«at_stage» ≡ 0 → s .steady ≡ 0 → s .rounds ≡ 0 → Running f s1 [] s
+fresh-counts : (f : Bool) (s : State) → s .progress .stage ≡ 0 → s .progress .«at_stage» ≡ 0 → s .progress .steady ≡ 0 → s .progress .rounds ≡ 0 → Running f s1 [] s
 unfolding countAt steadyRun levelWith levelAt
 fresh-counts f s a b c d =
-    record { stage = a; turns = b ∙ choose-same (sharpest f s1) 0; few = omega arith; steady = c; calm = omega arith; before = λ w. choose-false (ltb 0 (s .rounds)) _ false (ap (λ (n : ℕ). ltb 0 n) d) }
+    record { stage = a; turns = b ∙ choose-same (sharpest f s1) 0; few = omega arith; steady = c; calm = omega arith; before = λ w. choose-false (ltb 0 (s .progress .rounds)) _ false (ap (λ (n : ℕ). ltb 0 n) d) }
+
+-- the state that an opening leaves
+abbrev pub opened-at : Opening → State
+opened-at o = openedState (o .goal) (elements o) (length (nearOf o))
 
 -- the lists that an opening leaves, given back
 pub open-sim : (g : Asked) (k : Sizes) (l : Lists) → entryOf (openingOf g (k .work) (lend k l)) ≡ Opens
-    → Sim l (plainStart (openingOf g (k .work) (lend k l))) (openedState (openingOf g (k .work) (lend k l))) (giveBack (openBy (openedState (openingOf g (k .work) (lend k l))) (openingOf g (k .work) (lend k l)) (lend k l) Opens .lists) l)
+    → Sim l (plainStart (openingOf g (k .work) (lend k l))) (opened-at (openingOf g (k .work) (lend k l))) (giveBack (openBy (opened-at (openingOf g (k .work) (lend k l))) (openingOf g (k .work) (lend k l)) (lend k l) Opens .lists) l)
 unfolding caseFrom caseOf
 open-sim g k l e =
     let o : Opening = openingOf g (k .work) (lend k l) in
@@ -326,7 +331,7 @@ open-sim g k l e =
       rounds = refl;
       history = refl;
       solidWork = refl;
-      fits = (refl, refl, fresh-counts (g .goal .sharpen) (openedState o) refl refl refl refl);
+      fits = (refl, refl, fresh-counts (g .goal .sharpen) (opened-at o) refl refl refl refl);
       climbs = record { later = λ d b. count-none d };
     }
 
@@ -352,7 +357,7 @@ whole w k g more h = rw (in-turn (w .state) g (k .work) (lend k (w .lists)) h) (
     go : (v : Entry) → entryOf o ≡ v → callsBy (worldAfter l (by v)) more (by v .reply) (outOf (by v)) ≡ plainOpen o (map (fed l) more) v
     go Opens e =
         let m = open-sim g k l e in
-        let t = from-is l (plainStart o) (openedState o) (giveBack (by Opens .lists) l) more m in
+        let t = from-is l (plainStart o) (opened-at o) (giveBack (by Opens .lists) l) more m in
         λ i. record { out = asks solid (whole-part (elements o) (ones (elements o)) (take (k .density) (l .density)) (length-ones _) i); left = shown [] (m .design i) } ∷ t i
     go (KeptOut n) e = ap (λ (t : List Seen). record { out = refused n; left = unopened } ∷ t) (shut-is l (w .state) (giveBack (by (KeptOut n) .lists) l) more h)
     go (Zeroed n) e = ap (λ (t : List Seen). record { out = refused n; left = unopened } ∷ t) (shut-is l (w .state) (giveBack (by (Zeroed n) .lists) l) more h)
@@ -367,7 +372,7 @@ sim-from l₀ r s l (c ∷ more) m = sim-from l₀ _ _ _ more (answer-is l₀ r 
 
 pub stands : (l₀ : Lists) (r : Run) (s : State) (l : Lists) → Sim l₀ r s l → Stands (record { state = s; lists = l }) r
 stands l₀ r s l m =
-    let few : s .elements ≤ 65535 = rw (m .elements) (m .ready .few) in
+    let few : s .setting .elements ≤ 65535 = rw (m .elements) (m .ready .few) in
     record {
       passes = sound-is (r .part) r s few (m .rounds) (m .limit) (m .fits);
       asks = part-is (r .part) r s few (m .rounds) (m .limit) (m .fits);
@@ -384,7 +389,7 @@ shut-stays : (s : State) (l : Lists) (more : List Call) → NoRun s → NoRun (w
 unfolding worldFrom
 shut-stays s l [] h = h
 shut-stays s l (c ∷ more) h =
-    let e : answerOf s (c .told) (c .lent .work) (lend (c .lent) l) ≡ keeps s 20 (lend (c .lent) l) = refused-shut s (c .told) (c .lent .work) (lend (c .lent) l) h in
+    let e : answerOf s (c .arguments) (c .lent .work) (lend (c .lent) l) ≡ keeps s 20 (lend (c .lent) l) = refused-shut s (c .arguments) (c .lent .work) (lend (c .lent) l) h in
     shut-stays _ _ more (subst (λ (x : Result). NoRun (x .state)) (sym e) h)
 
 -- an opening that is refused leaves no run open

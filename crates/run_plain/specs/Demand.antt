@@ -10,7 +10,7 @@ use Rattle.run_plain.specs.Lent.{Sizes}
 use Rattle.run_plain.specs.Formulas.{Steep}
 use Rattle.run_plain.specs.Opening.{Opening, entryOf}
 use Rattle.run_plain.specs.Plain.{Answer, nothing, Out, Seen, inOrder, sharpest, Run, plainStart, runFrom, plainRun}
-use Rattle.run_plain.specs.Calls.{Lists, Told, Result, partOf, sound, answerOf, Asked, openingOf, World, lend, Call, resultOf, outOf, callsRun, worldOpen, worldFrom, fed, NoRun}
+use Rattle.run_plain.specs.Calls.{Lists, Arguments, Result, partOf, sound, answerOf, Asked, openingOf, World, lend, Call, resultOf, outOf, callsRun, worldOpen, worldFrom, fed, NoRun}
 use Rattle.run_plain.specs.Runs.{solidAsked, roundsAsked, Upto, All, GoodShown, roundsBegun, times, Ended, made as madeIn, recordedIn}
 
 -- what an opened run shows: "one question for the solid part and one a round begun, begins no more rounds than the goal allows", and its records
@@ -25,8 +25,8 @@ pub record Stands (w : World) (r : Run) : Type 0 where
   pub passes : sound (w .state) ≡ true
   pub asks : partOf (w .state) ≡ r .part
   pub closed : r .part ≡ nothing → NoRun (w .state)
-  pub solid : w .state .«solid_compliance» ≡ r .solidWork
-  pub records : take (w .state .rounds) (w .lists .history) ≡ inOrder (r .rows)
+  pub solid : w .state .compliances .solid ≡ r .solidWork
+  pub records : take (w .state .progress .rounds) (w .lists .history) ≡ inOrder (r .rows)
 
 -- the answer c ends the run only where, and wherever, the plain run's answer a ends it, and in the same way
 pub record EndsAt (w : World) (c : Call) (r : Run) (a : Answer) : Type 0 where
@@ -34,7 +34,7 @@ pub record EndsAt (w : World) (c : Call) (r : Run) (a : Answer) : Type 0 where
   pub there : (o : Out) → Ended r a o → NoRun (resultOf w c .state) × (outOf (resultOf w c) ≡ o)
 
 -- "a list lent too short being a part of the same list": which part makes no difference. An answer that is lent too little gives the same with any lists of these lengths, and keeps them
-pub record AnyPart (s : State) (a : Told) (work : List ℕ) (l l′ : Lists) : Type 0 where
+pub record AnyPart (s : State) (a : Arguments) (work : List ℕ) (l l′ : Lists) : Type 0 where
   pub reply : answerOf s a work l′ .reply ≡ answerOf s a work l .reply
   pub state : answerOf s a work l′ .state ≡ s
   pub lists : answerOf s a work l′ .lists ≡ l′
@@ -62,7 +62,7 @@ module _ (w : World) (k : Sizes) (g : Asked) (more : List Call) where
     -- "if sharpened, has at most 20 rounds at each steepness below 16": rounds begun, the last one without a record among them
     pub twenty : entryOf opening ≡ Opens → (d : Steep) → sharpest (opening .goal .sharpen) d ≡ false → times d (roundsBegun (plainStart opening) answers) ≤ 20
     -- "makes just the reckonings in its records"
-    pub made : entryOf opening ≡ Opens → madeIn (plainStart opening) answers ≡ recordedIn (take (callsEnd .state .rounds) (callsEnd .lists .history))
+    pub made : entryOf opening ≡ Opens → madeIn (plainStart opening) answers ≡ recordedIn (take (callsEnd .state .progress .rounds) (callsEnd .lists .history))
     -- "A run ends exactly where the plain run tries a stop of 01 that applies, by the first in its order, or by a refusal that 01 marks over."
     pub ends : entryOf opening ≡ Opens → (c : Call) → EndsAt callsEnd c plainEnd (fed (w .lists) c)
     pub refused : (entryOf opening ≡ Opens → ⊥) → NoRun (callsEnd .state)

@@ -12,6 +12,7 @@ use Rattle.topo.specs.declared.Stop.{Stop}
 use Rattle.topo.specs.declared.Stop.the-variants.{Settled, LevelledOff, Limit, Budget, Stopped}
 use Rattle.oc_record.specs.Record.{complianceOf}
 use Rattle.run_plain.specs.declared.Said.{Said}
+use Rattle.run_plain.specs.declared.Heard.{Heard}
 use Rattle.run_plain.specs.declared.Said.the-variants.{Gave, Failed, Halted}
 use Rattle.run_plain.specs.declared.Verdict.{Verdict}
 use Rattle.run_plain.specs.declared.Verdict.the-variants.{Kept, Over, Halts, Begins, Solves}
@@ -24,13 +25,10 @@ use Rattle.run_plain.specs.Formulas.{Steep, s1, s2, s4, s8, s16, ones, s
 use Rattle.run_plain.specs.Opening.{Opening, elements, nearOf, caseOf, startOf, entryOf}
 
 -- ---- what goes in and what comes out
--- an answer: what the solver said, its energies, the flag, the milliseconds, and how long each other list is
+-- an answer: what the solver said, the flag and the milliseconds; its energies; how long each other list is
 pub record Answer : Type 0 where
-  pub said : Said
+  pub heard : Heard
   pub energies : List Float
-  pub flag : Bool
-  pub elapsed : ℕ
-  pub allowed : ℕ
   pub lent : Sizes
 
 -- "the part asked for (solid, before round 1; round n; or none)"
@@ -209,8 +207,8 @@ stopsOf r a =
       small = newestChange (r .rows);
       levelled = leb 5 (steadyRun (r .given .goal .sharpen) (r .rows));
       limit = leb (r .given .goal .«max_iterations») (length (r .rows));
-      budget = leb (a .allowed) (a .elapsed);
-      flag = a .flag;
+      budget = leb (a .heard .allowed) (a .heard .elapsed);
+      flag = a .heard .flag;
     }
 
 -- "moving on after 20 rounds or a change below 0.01"
@@ -226,12 +224,12 @@ unfoldable pub checksOf : Run → Answer → Checks
 checksOf r a =
     record {
       short = answerShort (elements (r .given)) (length (nearOf (r .given))) (r .given .goal .«max_iterations») (a .lent);
-      said = a .said;
+      said = a .heard .said;
       stands = ltb 0 (length (r .rows));
       count = not (eqb (length (a .energies)) (elements (r .given)));
       bad = notFinite (a .energies);
       idle = idle (complianceOf (a .energies));
-      flag = a .flag;
+      flag = a .heard .flag;
     }
 
 abbrev pub after : Run → Answer → Verdict → Step

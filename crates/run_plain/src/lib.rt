@@ -48,42 +48,65 @@ pub enum Entry {
     Opens,
 }
 
-// A run as it stands between two calls.
-pub struct State {
-    pub phase: Phase,
+// What an opening fixes.
+pub struct Setting {
     pub elements: usize,
     // the entries of the filter's table
     pub entries: usize,
     pub fraction: f64,
     pub sharpen: bool,
     pub max_iterations: usize,
+}
+
+// How far a run is.
+pub struct Progress {
     // the records that stand
     pub rounds: usize,
     pub stage: usize,
     // the rounds at the stage, and the rounds running that the work has held steady
     pub at_stage: usize,
     pub steady: usize,
-    pub solid_compliance: f64,
-    // the last record's
-    pub compliance: f64,
+}
+
+// The solid part's work, and the last record's.
+pub struct Compliances {
+    pub solid: f64,
+    pub last: f64,
+}
+
+// A run as it stands between two calls.
+pub struct State {
+    pub phase: Phase,
+    pub setting: Setting,
+    pub progress: Progress,
+    pub compliances: Compliances,
+}
+
+// What an answer says beside the energies: what the solver did, whether the run is to stop, the milliseconds elapsed and allowed.
+pub struct Heard {
+    pub said: Said,
+    pub flag: bool,
+    pub elapsed: u64,
+    pub allowed: u64,
+}
+
+// What a call returns.
+pub struct Returned {
+    pub state: State,
+    pub reply: Reply,
 }
 
 // The same state, with no run open.
 pub fn ended(s: State) -> State
     ensures { λ r. ⌜ r ≡ endedOf s ⌝ }
 {
+    let setting = s.setting;
+    let progress = s.progress;
+    let compliances = s.compliances;
     State {
         phase: Phase::Idle,
-        elements: s.elements,
-        entries: s.entries,
-        fraction: s.fraction,
-        sharpen: s.sharpen,
-        max_iterations: s.max_iterations,
-        rounds: s.rounds,
-        stage: s.stage,
-        at_stage: s.at_stage,
-        steady: s.steady,
-        solid_compliance: s.solid_compliance,
-        compliance: s.compliance,
+        setting,
+        progress,
+        compliances,
     }
 }

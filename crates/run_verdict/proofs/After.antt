@@ -13,9 +13,10 @@ use Rattle.run_plain.specs.declared.Course.{Course}
 use Rattle.run_plain.specs.declared.Course.the-variants.{Onward}
 use Rattle.run_plain.specs.declared.Phase.the-variants.{Round}
 use Rattle.run_plain.specs.declared.State.{State}
+use Rattle.run_plain.specs.declared.Heard.{Heard}
 use Rattle.run_plain.specs.Formulas.{small, level}
 use Rattle.run_plain.specs.Plain.{firstStop, sharpest, same}
-use Rattle.run_plain.specs.Calls.{Told, steepAt, levelAt, steadyAt, stopsAt, dueAt, stageAfter, turnsAfter, onwardState}
+use Rattle.run_plain.specs.Calls.{steepAt, levelAt, steadyAt, stopsAt, dueAt, stageAfter, turnsAfter, onwardState}
 use Rattle.run_plain.proofs.Counts.{goes-on}
 
 pub sharpest-is : (sharpen : Bool) (stage : ℕ) → (not sharpen || leb 4 stage) ≡ sharpest sharpen (steepAt stage)
@@ -26,44 +27,44 @@ sharpest-is sharpen (suc (suc zero)) = refl
 sharpest-is sharpen (suc (suc (suc zero))) = refl
 sharpest-is sharpen (suc (suc (suc (suc n)))) = ap (λ (t : Bool). not sharpen || t) (le-leb 4 (suc (suc (suc (suc n)))) (omega arith))
 
-pub level-is : (s : State) (w : Float) (t : Bool) → t ≡ level (s .compliance) w → (ltb 0 (s .rounds) && t) ≡ levelAt s w
+pub level-is : (s : State) (w : Float) (t : Bool) → t ≡ level (s .compliances .last) w → (ltb 0 (s .progress .rounds) && t) ≡ levelAt s w
 unfolding levelAt choose
-level-is s w t e = by (ltb 0 (s .rounds)) ∙ ap (λ (x : Bool). choose (ltb 0 (s .rounds)) x false) e
+level-is s w t e = by (ltb 0 (s .progress .rounds)) ∙ ap (λ (x : Bool). choose (ltb 0 (s .progress .rounds)) x false) e
   where
     by : (b : Bool) → (b && t) ≡ choose b t false
     by true = refl
     by false = refl
 
-pub steady-more : (s : State) (w : Float) (sharp lv : Bool) → sharp ≡ sharpest (s .sharpen) (steepAt (s .stage)) → lv ≡ levelAt s w → (sharp && lv) ≡ true → s .steady + 1 ≡ steadyAt s w
+pub steady-more : (s : State) (w : Float) (sharp lv : Bool) → sharp ≡ sharpest (s .setting .sharpen) (steepAt (s .progress .stage)) → lv ≡ levelAt s w → (sharp && lv) ≡ true → s .progress .steady + 1 ≡ steadyAt s w
 unfolding steadyAt choose
-steady-more s w sharp lv p q h = add-one (s .steady) ∙ ap (λ (t : Bool). choose t (suc (s .steady)) 0) (sym h ∙ (λ i. p i && q i))
+steady-more s w sharp lv p q h = add-one (s .progress .steady) ∙ ap (λ (t : Bool). choose t (suc (s .progress .steady)) 0) (sym h ∙ (λ i. p i && q i))
 
-pub steady-none : (s : State) (w : Float) (sharp lv : Bool) → sharp ≡ sharpest (s .sharpen) (steepAt (s .stage)) → lv ≡ levelAt s w → (sharp && lv) ≡ false → 0 ≡ steadyAt s w
+pub steady-none : (s : State) (w : Float) (sharp lv : Bool) → sharp ≡ sharpest (s .setting .sharpen) (steepAt (s .progress .stage)) → lv ≡ levelAt s w → (sharp && lv) ≡ false → 0 ≡ steadyAt s w
 unfolding steadyAt choose
-steady-none s w sharp lv p q h = ap (λ (t : Bool). choose t (suc (s .steady)) 0) (sym h ∙ (λ i. p i && q i))
+steady-none s w sharp lv p q h = ap (λ (t : Bool). choose t (suc (s .progress .steady)) 0) (sym h ∙ (λ i. p i && q i))
 
-pub course-is : (s : State) (a : Told) (e : Iteration) (sharp sm : Bool) (steady : ℕ) → sharp ≡ sharpest (s .sharpen) (steepAt (s .stage)) → sm ≡ small (e .change) → steady ≡ steadyAt s (e .compliance)
-    → (v : Course) → v ≡ firstStop (record { sharp = sharp; small = sm; levelled = leb 5 steady; limit = leb (s .«max_iterations») (s .rounds + 1); budget = leb (a .allowed) (a .elapsed); flag = a .flag })
-    → v ≡ firstStop (stopsAt s a e)
+pub course-is : (s : State) (h : Heard) (e : Iteration) (sharp sm : Bool) (steady : ℕ) → sharp ≡ sharpest (s .setting .sharpen) (steepAt (s .progress .stage)) → sm ≡ small (e .change) → steady ≡ steadyAt s (e .compliance)
+    → (v : Course) → v ≡ firstStop (record { sharp = sharp; small = sm; levelled = leb 5 steady; limit = leb (s .setting .«max_iterations») (s .progress .rounds + 1); budget = leb (h .allowed) (h .elapsed); flag = h .flag })
+    → v ≡ firstStop (stopsAt s h e)
 unfolding stopsAt
-course-is s a e sharp sm steady p q r v h =
-    let o : s .rounds + 1 ≡ suc (s .rounds) = add-one (s .rounds) in
-    h ∙ (λ i. firstStop (record { sharp = p i; small = q i; levelled = leb 5 (r i); limit = leb (s .«max_iterations») (o i); budget = leb (a .allowed) (a .elapsed); flag = a .flag }))
+course-is s h e sharp sm steady p q r v z =
+    let o : s .progress .rounds + 1 ≡ suc (s .progress .rounds) = add-one (s .progress .rounds) in
+    z ∙ (λ i. firstStop (record { sharp = p i; small = q i; levelled = leb 5 (r i); limit = leb (s .setting .«max_iterations») (o i); budget = leb (h .allowed) (h .elapsed); flag = h .flag }))
 
-pub onward-is : (s : State) (e : Iteration) (sharp sm : Bool) (steady inner stage inner′ turns : ℕ) → sharp ≡ sharpest (s .sharpen) (steepAt (s .stage)) → sm ≡ small (e .change) → steady ≡ steadyAt s (e .compliance)
-    → inner ≡ choose (leb 20 (s .«at_stage» + 1) || sm) (s .stage + 1) (s .stage) → stage ≡ choose sharp (s .stage) inner
-    → inner′ ≡ choose (leb 20 (s .«at_stage» + 1) || sm) 0 (s .«at_stage» + 1) → turns ≡ choose sharp 0 inner′
-    → _≡_ {A = State} (record { phase = Round; elements = s .elements; entries = s .entries; fraction = s .fraction; sharpen = s .sharpen; «max_iterations» = s .«max_iterations»; rounds = s .rounds + 1; stage = stage; «at_stage» = turns; steady = steady; «solid_compliance» = s .«solid_compliance»; compliance = e .compliance }) (onwardState s e)
+pub onward-is : (s : State) (e : Iteration) (sharp sm : Bool) (steady inner stage inner′ turns : ℕ) → sharp ≡ sharpest (s .setting .sharpen) (steepAt (s .progress .stage)) → sm ≡ small (e .change) → steady ≡ steadyAt s (e .compliance)
+    → inner ≡ choose (leb 20 (s .progress .«at_stage» + 1) || sm) (s .progress .stage + 1) (s .progress .stage) → stage ≡ choose sharp (s .progress .stage) inner
+    → inner′ ≡ choose (leb 20 (s .progress .«at_stage» + 1) || sm) 0 (s .progress .«at_stage» + 1) → turns ≡ choose sharp 0 inner′
+    → _≡_ {A = State} (record { phase = Round; setting = s .setting; progress = record { rounds = s .progress .rounds + 1; stage = stage; «at_stage» = turns; steady = steady }; compliances = record { solid = s .compliances .solid; last = e .compliance } }) (onwardState s e)
 unfolding stageAfter turnsAfter dueAt
 onward-is s e sharp sm steady inner stage inner′ turns p q r i1 i2 j1 j2 =
-    let o : s .rounds + 1 ≡ suc (s .rounds) = add-one (s .rounds) in
-    let t : s .«at_stage» + 1 ≡ suc (s .«at_stage») = add-one (s .«at_stage») in
-    let g : s .stage + 1 ≡ suc (s .stage) = add-one (s .stage) in
-    let st = i2 ∙ (λ i. choose (p i) (s .stage) (i1 i)) ∙ (λ i. choose (sharpest (s .sharpen) (steepAt (s .stage))) (s .stage) (choose (leb 20 (t i) || q i) (g i) (s .stage))) in
-    let tu = j2 ∙ (λ i. choose (p i) 0 (j1 i)) ∙ (λ i. choose (sharpest (s .sharpen) (steepAt (s .stage))) 0 (choose (leb 20 (t i) || q i) 0 (t i))) in
-    λ i. record { phase = Round; elements = s .elements; entries = s .entries; fraction = s .fraction; sharpen = s .sharpen; «max_iterations» = s .«max_iterations»; rounds = o i; stage = st i; «at_stage» = tu i; steady = r i; «solid_compliance» = s .«solid_compliance»; compliance = e .compliance }
+    let o : s .progress .rounds + 1 ≡ suc (s .progress .rounds) = add-one (s .progress .rounds) in
+    let t : s .progress .«at_stage» + 1 ≡ suc (s .progress .«at_stage») = add-one (s .progress .«at_stage») in
+    let g : s .progress .stage + 1 ≡ suc (s .progress .stage) = add-one (s .progress .stage) in
+    let st = i2 ∙ (λ i. choose (p i) (s .progress .stage) (i1 i)) ∙ (λ i. choose (sharpest (s .setting .sharpen) (steepAt (s .progress .stage))) (s .progress .stage) (choose (leb 20 (t i) || q i) (g i) (s .progress .stage))) in
+    let tu = j2 ∙ (λ i. choose (p i) 0 (j1 i)) ∙ (λ i. choose (sharpest (s .setting .sharpen) (steepAt (s .progress .stage))) 0 (choose (leb 20 (t i) || q i) 0 (t i))) in
+    λ i. record { phase = Round; setting = s .setting; progress = record { rounds = o i; stage = st i; «at_stage» = tu i; steady = r i }; compliances = record { solid = s .compliances .solid; last = e .compliance } }
 
 -- a round that goes on has one left
-pub goes-fit : (s : State) (a : Told) (e : Iteration) (t : Course) → t ≡ firstStop (stopsAt s a e) → t ≡ Onward → suc (s .rounds) < s .«max_iterations»
+pub goes-fit : (s : State) (a : Heard) (e : Iteration) (t : Course) → t ≡ firstStop (stopsAt s a e) → t ≡ Onward → suc (s .progress .rounds) < s .setting .«max_iterations»
 unfolding stopsAt
 goes-fit s a e t g h = leb-false _ _ (goes-on (stopsAt s a e) (sym g ∙ h) .limit)

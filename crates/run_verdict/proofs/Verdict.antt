@@ -19,7 +19,7 @@ use Rattle.run_plain.specs.declared.State.{State}
 use Rattle.run_plain.specs.Lent.{Sizes, answerShort}
 use Rattle.run_plain.specs.Formulas.{notFinite, idle}
 use Rattle.run_plain.specs.Plain.{Part, nothing, solid, round, Checks, judged}
-use Rattle.run_plain.specs.Calls.{Told, counts, soundIn, sound, partIn, partOf, checksAt}
+use Rattle.run_plain.specs.Calls.{Arguments, inRange, soundIn, sound, partIn, partOf, checksAt}
 use Rattle.run_plain.proofs.Verdicts.{Told-of, told, SaneIf, sane-if}
 use Rattle.run_verdict.specs.Fit.{Fit}
 
@@ -39,58 +39,58 @@ pub out-of-turn : (s : State) (c : Checks) → s .phase ≡ Idle → Kept 20 ≡
 unfolding choose
 out-of-turn s c e = no-part s c (part-by s Idle true e refl)
 
-pub fails-test : (s : State) (c : Checks) (ok : Bool) → ok ≡ counts s → ok ≡ false → Kept 20 ≡ judged (partOf s) c
+pub fails-test : (s : State) (c : Checks) (ok : Bool) → ok ≡ inRange s → ok ≡ false → Kept 20 ≡ judged (partOf s) c
 unfolding choose
 fails-test s c ok e h = by (s .phase) refl
   where
-    f : counts s ≡ false
+    f : inRange s ≡ false
     f = sym e ∙ h
 
     by : (p : Phase) → s .phase ≡ p → Kept 20 ≡ judged (partOf s) c
     by Idle q = out-of-turn s c q
-    by Solid q = no-part s c (part-by s Solid false q (ap (λ (t : Bool). t && eqb (s .rounds) 0) f))
-    by Round q = no-part s c (part-by s Round false q (ap (λ (t : Bool). t && ltb (s .rounds) (s .«max_iterations»)) f))
+    by Solid q = no-part s c (part-by s Solid false q (ap (λ (t : Bool). t && eqb (s .progress .rounds) 0) f))
+    by Round q = no-part s c (part-by s Round false q (ap (λ (t : Bool). t && ltb (s .progress .rounds) (s .setting .«max_iterations»)) f))
 
-pub solid-verdict : (s : State) (c : Checks) (ok : Bool) (v : Verdict) → s .phase ≡ Solid → ok ≡ counts s → ok ≡ true → v ≡ judged (choose (eqb (s .rounds) 0) solid nothing) c → v ≡ judged (partOf s) c
+pub solid-verdict : (s : State) (c : Checks) (ok : Bool) (v : Verdict) → s .phase ≡ Solid → ok ≡ inRange s → ok ≡ true → v ≡ judged (choose (eqb (s .progress .rounds) 0) solid nothing) c → v ≡ judged (partOf s) c
 solid-verdict s c ok v p e h q =
-    let t : counts s ≡ true = sym e ∙ h in
-    q ∙ ap (λ (x : Part). judged x c) (sym (part-by s Solid (eqb (s .rounds) 0) p (ap (λ (b : Bool). b && eqb (s .rounds) 0) t)))
+    let t : inRange s ≡ true = sym e ∙ h in
+    q ∙ ap (λ (x : Part). judged x c) (sym (part-by s Solid (eqb (s .progress .rounds) 0) p (ap (λ (b : Bool). b && eqb (s .progress .rounds) 0) t)))
 
-pub round-over : (s : State) (c : Checks) (ok : Bool) → s .phase ≡ Round → ok ≡ counts s → ok ≡ true → ltb (s .rounds) (s .«max_iterations») ≡ false → Kept 20 ≡ judged (partOf s) c
+pub round-over : (s : State) (c : Checks) (ok : Bool) → s .phase ≡ Round → ok ≡ inRange s → ok ≡ true → ltb (s .progress .rounds) (s .setting .«max_iterations») ≡ false → Kept 20 ≡ judged (partOf s) c
 unfolding choose
 round-over s c ok p e h l =
-    let t : counts s ≡ true = sym e ∙ h in
+    let t : inRange s ≡ true = sym e ∙ h in
     no-part s c (part-by s Round false p (λ i. t i && l i))
 
-pub round-verdict : (s : State) (c : Checks) (ok : Bool) (v : Verdict) → s .phase ≡ Round → ok ≡ counts s → ok ≡ true → ltb (s .rounds) (s .«max_iterations») ≡ true → v ≡ judged (choose true (round (s .rounds + 1)) nothing) c → v ≡ judged (partOf s) c
+pub round-verdict : (s : State) (c : Checks) (ok : Bool) (v : Verdict) → s .phase ≡ Round → ok ≡ inRange s → ok ≡ true → ltb (s .progress .rounds) (s .setting .«max_iterations») ≡ true → v ≡ judged (choose true (round (s .progress .rounds + 1)) nothing) c → v ≡ judged (partOf s) c
 round-verdict s c ok v p e h l q =
-    let t : counts s ≡ true = sym e ∙ h in
-    let o : s .rounds + 1 ≡ suc (s .rounds) = add-one (s .rounds) in
+    let t : inRange s ≡ true = sym e ∙ h in
+    let o : s .progress .rounds + 1 ≡ suc (s .progress .rounds) = add-one (s .progress .rounds) in
     q ∙ (λ i. judged (choose true (round (o i)) nothing) c) ∙ ap (λ (x : Part). judged x c) (sym (part-by s Round true p (λ i. t i && l i)))
 
 -- the checks, from what the code works out
-pub checks-are : (s : State) (a : Told) (k : Sizes) (short bad idl : Bool) (w : Float) → short ≡ answerShort (s .elements) (s .entries) (s .«max_iterations») k → bad ≡ notFinite (a .energies) → w ≡ complianceOf (a .energies) → idl ≡ idle w
-    → (p : Part) (v : Verdict) → v ≡ judged p (record { short = short; said = a .said; stands = ltb 0 (s .rounds); count = not (eqb (length (a .energies)) (s .elements)); bad = bad; idle = idl; flag = a .flag })
+pub checks-are : (s : State) (a : Arguments) (k : Sizes) (short bad idl : Bool) (w : Float) → short ≡ answerShort (s .setting .elements) (s .setting .entries) (s .setting .«max_iterations») k → bad ≡ notFinite (a .energies) → w ≡ complianceOf (a .energies) → idl ≡ idle w
+    → (p : Part) (v : Verdict) → v ≡ judged p (record { short = short; said = a .heard .said; stands = ltb 0 (s .progress .rounds); count = not (eqb (length (a .energies)) (s .setting .elements)); bad = bad; idle = idl; flag = a .heard .flag })
     → v ≡ judged p (checksAt s a k)
 unfolding checksAt
 checks-are s a k short bad idl w e1 e2 e3 e4 p v h =
     let e5 : idl ≡ idle (complianceOf (a .energies)) = e4 ∙ ap idle e3 in
-    h ∙ (λ i. judged p (record { short = e1 i; said = a .said; stands = ltb 0 (s .rounds); count = not (eqb (length (a .energies)) (s .elements)); bad = e2 i; idle = e5 i; flag = a .flag }))
+    h ∙ (λ i. judged p (record { short = e1 i; said = a .heard .said; stands = ltb 0 (s .progress .rounds); count = not (eqb (length (a .energies)) (s .setting .elements)); bad = e2 i; idle = e5 i; flag = a .heard .flag }))
 
 -- what a test that is passed says
-pub counts-few : (s : State) (ok : Bool) → ok ≡ counts s → ok ≡ true → s .elements < 65536
-unfolding counts
+pub counts-few : (s : State) (ok : Bool) → ok ≡ inRange s → ok ≡ true → s .setting .elements < 65536
+unfolding inRange
 counts-few s ok e h =
-    let q = both (leb (s .stage) 4 && ltb (s .«at_stage») 20 && ltb (s .steady) 5) (leb (s .elements) 65535) (sym e ∙ h) in
-    let p : s .elements ≤ 65535 = leb-true _ _ (q .1) in
+    let q = both (leb (s .progress .stage) 4 && ltb (s .progress .«at_stage») 20 && ltb (s .progress .steady) 5) (leb (s .setting .elements) 65535) (sym e ∙ h) in
+    let p : s .setting .elements ≤ 65535 = leb-true _ _ (q .1) in
     omega arith
 
-fit-counts : (s : State) → counts s ≡ true → s .rounds < s .«max_iterations» → Fit s
-unfolding counts
+fit-counts : (s : State) → inRange s ≡ true → s .progress .rounds < s .setting .«max_iterations» → Fit s
+unfolding inRange
 fit-counts s e d =
-    let p3 = both (leb (s .stage) 4 && ltb (s .«at_stage») 20 && ltb (s .steady) 5) _ e in
-    let p2 = both (leb (s .stage) 4 && ltb (s .«at_stage») 20) _ (p3 .0) in
-    let p1 = both (leb (s .stage) 4) _ (p2 .0) in
+    let p3 = both (leb (s .progress .stage) 4 && ltb (s .progress .«at_stage») 20 && ltb (s .progress .steady) 5) _ e in
+    let p2 = both (leb (s .progress .stage) 4 && ltb (s .progress .«at_stage») 20) _ (p3 .0) in
+    let p1 = both (leb (s .progress .stage) 4) _ (p2 .0) in
     record { stage = leb-true _ _ (p1 .0); turns = ltb-true _ _ (p1 .1); steady = ltb-true _ _ (p2 .1); elements = leb-true _ _ (p3 .1); rounds = d }
 
 -- a part that is asked for tells that the test is passed
@@ -111,9 +111,9 @@ fit-part s n e =
     by : (p : Phase) → soundIn p s ≡ true → partIn p s ≡ round n → Fit s
     by Idle b q = absurd (let z : _≡_ {A = ℕ} 0 1 = cc in omega arith)
     by Solid b q = absurd (let z : _≡_ {A = ℕ} 0 1 = cc in omega arith)
-    by Round b q = let t = both (counts s) _ b in fit-counts s (t .0) (ltb-true _ _ (t .1))
+    by Round b q = let t = both (inRange s) _ b in fit-counts s (t .0) (ltb-true _ _ (t .1))
 
-module _ (s : State) (a : Told) (k : Sizes) (v : Verdict) (e : v ≡ judged (partOf s) (checksAt s a k)) where
+module _ (s : State) (a : Arguments) (k : Sizes) (v : Verdict) (e : v ≡ judged (partOf s) (checksAt s a k)) where
   said : (w : Verdict) → v ≡ w → Told-of w (partOf s) (checksAt s a k)
   said w p = subst (λ (x : Verdict). Told-of x (partOf s) (checksAt s a k)) (sym e ∙ p) (told (partOf s) (checksAt s a k))
 

@@ -6,7 +6,8 @@ ghost use Rattle.lists.specs.Lists.{choose};
 ghost use Rattle.run_plain.specs.Lent.{answerShort};
 ghost use Rattle.run_plain.specs.Formulas.{notFinite, idle as idleOf};
 ghost use Rattle.run_plain.specs.Plain.{judged, Part};
-ghost use Rattle.run_plain.specs.Calls.{counts as countsOf, partOf, checksAt};
+ghost use Rattle.run_plain.specs.Calls.{inRange, partOf, checksAt};
+use run_plain::Heard;
 use run_plain::Phase;
 use run_plain::Said;
 use run_plain::State;
@@ -30,10 +31,14 @@ fn idle(compliance: f64) -> bool
     !(compliance > 0.0)
 }
 
-fn counts(state: State) -> bool
-    ensures { λ r. ⌜ r ≡ countsOf state ⌝ }
+// 20's test of a state's numbers.
+fn in_range(state: State) -> bool
+    ensures { λ r. ⌜ r ≡ inRange state ⌝ }
 {
-    (state.stage <= 4) & (state.at_stage < 20) & (state.steady < 5) & (state.elements <= 65535)
+    (state.progress.stage <= 4)
+        & (state.progress.at_stage < 20)
+        & (state.progress.steady < 5)
+        & (state.setting.elements <= 65535)
 }
 
 fn too_short(
@@ -56,7 +61,18 @@ fn too_short(
     work5: usize,
 ) -> bool
     requires { ⌜ elements < 65536 ⌝ }
-    ensures { λ r. ⌜ r ≡ answerShort elements entries rounds (record { volumes = volumes; passive = passive; starts = starts; near = near; coef = coef; design = design; density = density; last = last; history = history; work = work1 ∷ work2 ∷ work3 ∷ work4 ∷ work5 ∷ [] }) ⌝ }
+    ensures { λ r. ⌜ r ≡ answerShort elements entries rounds (record {
+      volumes = volumes;
+      passive = passive;
+      starts = starts;
+      near = near;
+      coef = coef;
+      design = design;
+      density = density;
+      last = last;
+      history = history;
+      work = work1 ∷ work2 ∷ work3 ∷ work4 ∷ work5 ∷ [];
+    }) ⌝ }
 {
     ((starts < elements + 1)
         | ((design < elements)
@@ -157,10 +173,7 @@ fn of_round(
 // What an answer comes to; of every list but the energies only the length is looked at.
 pub fn verdict(
     state: State,
-    said: Said,
-    flag: bool,
-    elapsed: u64,
-    allowed: u64,
+    heard: Heard,
     energies: &[f64],
     volumes: usize,
     passive: usize,
@@ -177,18 +190,29 @@ pub fn verdict(
     work4: usize,
     work5: usize,
 ) -> Verdict
-    ensures { λ r. ⌜ r ≡ judged (partOf state) (checksAt state (record { said = said; energies = now (energies .entry); flag = flag; elapsed = elapsed; allowed = allowed })
-        (record { volumes = volumes; passive = passive; starts = starts; near = near; coef = coef; design = design; density = density; last = last; history = history; work = work1 ∷ work2 ∷ work3 ∷ work4 ∷ work5 ∷ [] })) ⌝ }
+    ensures { λ r. ⌜ r ≡ judged (partOf state) (checksAt state (record { heard = heard; energies = now (energies .entry) })
+        (record {
+          volumes = volumes;
+          passive = passive;
+          starts = starts;
+          near = near;
+          coef = coef;
+          design = design;
+          density = density;
+          last = last;
+          history = history;
+          work = work1 ∷ work2 ∷ work3 ∷ work4 ∷ work5 ∷ [];
+        })) ⌝ }
 {
     let phase = state.phase;
-    let hold = counts(state);
-    if !hold {
+    let numbers = in_range(state);
+    if !numbers {
         return Verdict::Kept(20);
     }
     let short = too_short(
-        state.elements,
-        state.entries,
-        state.max_iterations,
+        state.setting.elements,
+        state.setting.entries,
+        state.setting.max_iterations,
         volumes,
         passive,
         starts,
@@ -204,17 +228,19 @@ pub fn verdict(
         work4,
         work5,
     );
-    let count = energies.len() != state.elements;
+    let count = energies.len() != state.setting.elements;
     let bad = not_finite(energies);
     let idle = idle(oc_record::compliance(energies));
-    let stands = 0 < state.rounds;
+    let stands = 0 < state.progress.rounds;
+    let said = heard.said;
+    let flag = heard.flag;
     match phase {
         Phase::Idle => {
             return Verdict::Kept(20);
         }
         Phase::Solid => {
             return of_solid(
-                state.rounds == 0,
+                state.progress.rounds == 0,
                 short,
                 said,
                 stands,
@@ -225,12 +251,12 @@ pub fn verdict(
             );
         }
         Phase::Round => {
-            let left = state.rounds < state.max_iterations;
+            let left = state.progress.rounds < state.setting.max_iterations;
             if !left {
                 return Verdict::Kept(20);
             }
             return of_round(
-                state.rounds + 1,
+                state.progress.rounds + 1,
                 true,
                 short,
                 said,

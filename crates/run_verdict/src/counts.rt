@@ -6,9 +6,11 @@ ghost use Rattle.run_plain.specs.Formulas.{small as smallOf, level as levelOf};
 ghost use Rattle.run_plain.specs.Plain.{firstStop, sharpest as sharpestOf};
 ghost use Rattle.run_plain.specs.Calls.{steepAt, levelAt, steadyAt, stopsAt, onwardState, recordedState, firstState};
 ghost use Rattle.run_verdict.specs.Fit.{Fit};
+use run_plain::Compliances;
 use run_plain::Course;
+use run_plain::Heard;
 use run_plain::Phase;
-use run_plain::Said;
+use run_plain::Progress;
 use run_plain::State;
 use topo::Iteration;
 use topo::Stop;
@@ -36,37 +38,29 @@ fn sharpest(sharpen: bool, stage: usize) -> bool
 fn level_at(state: State, compliance: f64) -> bool
     ensures { λ r. ⌜ r ≡ levelAt state compliance ⌝ }
 {
-    let t = level(state.compliance, compliance);
-    (0 < state.rounds) & t
+    let t = level(state.compliances.last, compliance);
+    (0 < state.progress.rounds) & t
 }
 
 // The rounds running that the work has held steady.
 fn steady_after(state: State, compliance: f64) -> usize
-    requires { ⌜ state .steady < 5 ⌝ }
+    requires { ⌜ state .progress .steady < 5 ⌝ }
     ensures { λ r. ⌜ r ≡ steadyAt state compliance ⌝ }
 {
-    let sharp = sharpest(state.sharpen, state.stage);
+    let sharp = sharpest(state.setting.sharpen, state.progress.stage);
     let level = level_at(state, compliance);
     if sharp & level {
-        return state.steady + 1;
+        return state.progress.steady + 1;
     }
     0
 }
 
 // The first stop that applies after a round, in 01's order.
-pub fn course(
-    state: State,
-    said: Said,
-    flag: bool,
-    elapsed: u64,
-    allowed: u64,
-    energies: &[f64],
-    entry: Iteration,
-) -> Course
+pub fn course(state: State, heard: Heard, entry: Iteration) -> Course
     requires { ⌜ Fit state ⌝ }
-    ensures { λ r. ⌜ r ≡ firstStop (stopsAt state (record { said = said; energies = now (energies .entry); flag = flag; elapsed = elapsed; allowed = allowed }) entry) ⌝ }
+    ensures { λ r. ⌜ r ≡ firstStop (stopsAt state heard entry) ⌝ }
 {
-    let sharp = sharpest(state.sharpen, state.stage);
+    let sharp = sharpest(state.setting.sharpen, state.progress.stage);
     let small = small(entry.change);
     let steady = steady_after(state, entry.compliance);
     if sharp & small {
@@ -75,13 +69,13 @@ pub fn course(
     if sharp & (5 <= steady) {
         return Course::Ends(Stop::LevelledOff);
     }
-    if state.max_iterations <= state.rounds + 1 {
+    if state.setting.max_iterations <= state.progress.rounds + 1 {
         return Course::Ends(Stop::Limit);
     }
-    if allowed <= elapsed {
+    if heard.allowed <= heard.elapsed {
         return Course::Ends(Stop::Budget);
     }
-    if flag {
+    if heard.flag {
         return Course::Ends(Stop::Stopped);
     }
     Course::Onward
@@ -97,19 +91,16 @@ fn either(test: bool, a: usize, b: usize) -> usize
 pub fn first_state(state: State, compliance: f64) -> State
     ensures { λ r. ⌜ r ≡ firstState state compliance ⌝ }
 {
+    let setting = state.setting;
+    let progress = state.progress;
     State {
         phase: Phase::Round,
-        elements: state.elements,
-        entries: state.entries,
-        fraction: state.fraction,
-        sharpen: state.sharpen,
-        max_iterations: state.max_iterations,
-        rounds: state.rounds,
-        stage: state.stage,
-        at_stage: state.at_stage,
-        steady: state.steady,
-        solid_compliance: compliance,
-        compliance: state.compliance,
+        setting,
+        progress,
+        compliances: Compliances {
+            solid: compliance,
+            last: state.compliances.last,
+        },
     }
 }
 
@@ -118,29 +109,30 @@ pub fn onward_state(state: State, entry: Iteration) -> State
     requires { ⌜ Fit state ⌝ }
     ensures { λ r. ⌜ r ≡ onwardState state entry ⌝ }
 {
-    let sharp = sharpest(state.sharpen, state.stage);
+    let sharp = sharpest(state.setting.sharpen, state.progress.stage);
     let small = small(entry.change);
     let steady = steady_after(state, entry.compliance);
-    let due = (20 <= state.at_stage + 1) | small;
+    let due = (20 <= state.progress.at_stage + 1) | small;
     let stage = either(
         sharp,
-        state.stage,
-        either(due, state.stage + 1, state.stage),
+        state.progress.stage,
+        either(due, state.progress.stage + 1, state.progress.stage),
     );
-    let at_stage = either(sharp, 0, either(due, 0, state.at_stage + 1));
+    let at_stage = either(sharp, 0, either(due, 0, state.progress.at_stage + 1));
+    let setting = state.setting;
     State {
         phase: Phase::Round,
-        elements: state.elements,
-        entries: state.entries,
-        fraction: state.fraction,
-        sharpen: state.sharpen,
-        max_iterations: state.max_iterations,
-        rounds: state.rounds + 1,
-        stage,
-        at_stage,
-        steady,
-        solid_compliance: state.solid_compliance,
-        compliance: entry.compliance,
+        setting,
+        progress: Progress {
+            rounds: state.progress.rounds + 1,
+            stage,
+            at_stage,
+            steady,
+        },
+        compliances: Compliances {
+            solid: state.compliances.solid,
+            last: entry.compliance,
+        },
     }
 }
 
@@ -149,26 +141,27 @@ pub fn recorded_state(state: State, entry: Iteration) -> State
     requires { ⌜ Fit state ⌝ }
     ensures { λ r. ⌜ r ≡ recordedState state entry ⌝ }
 {
+    let setting = state.setting;
     State {
         phase: Phase::Idle,
-        elements: state.elements,
-        entries: state.entries,
-        fraction: state.fraction,
-        sharpen: state.sharpen,
-        max_iterations: state.max_iterations,
-        rounds: state.rounds + 1,
-        stage: state.stage,
-        at_stage: state.at_stage,
-        steady: state.steady,
-        solid_compliance: state.solid_compliance,
-        compliance: entry.compliance,
+        setting,
+        progress: Progress {
+            rounds: state.progress.rounds + 1,
+            stage: state.progress.stage,
+            at_stage: state.progress.at_stage,
+            steady: state.progress.steady,
+        },
+        compliances: Compliances {
+            solid: state.compliances.solid,
+            last: entry.compliance,
+        },
     }
 }
 
 // The number of the round that is asked for next.
 pub fn next_round(state: State) -> usize
-    requires { ⌜ suc (state .rounds) < state .«max_iterations» ⌝ }
-    ensures { λ r. ⌜ r ≡ suc (suc (state .rounds)) ⌝ }
+    requires { ⌜ suc (state .progress .rounds) < state .setting .«max_iterations» ⌝ }
+    ensures { λ r. ⌜ r ≡ suc (suc (state .progress .rounds)) ⌝ }
 {
-    state.rounds + 1 + 1
+    state.progress.rounds + 1 + 1
 }

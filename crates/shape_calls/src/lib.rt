@@ -1,15 +1,15 @@
 // The calls of `run` with a history of 64 records that is held by value: it is lent to the call, and comes back. Whoever calls these needs no walk
 // by hand.
 ghost use Rattle.run.specs.Run.{Opened, Answered};
-use run_answer::Told;
-use run_plain::Said;
+use run_plain::Heard;
+use run_plain::Returned;
 use run_plain::State;
 use topo::Goal;
 use topo::Iteration;
 
 pub struct Turn {
     pub history: [Iteration; 64],
-    pub told: Told,
+    pub returned: Returned,
 }
 
 pub fn open(
@@ -40,13 +40,13 @@ pub fn open(
         (record { volumes = now (volumes .entry); passive = now (passive .entry); starts = now (starts .entry); near = now (near .entry); coef = now (coef .entry); design = now (design .entry); density = now (density .entry); last = now (last .entry) })
         (record { cell = now (cell .entry); order = now (order .entry); first = now (first .entry); sorted = now (sorted .entry); stamp = now (stamp .entry); weight = now (weight .entry); found = now (found .entry); bits = now (bits .entry) })
         history
-        (r .told)
+        (r .returned)
         (record { volumes = now (volumes .entry); passive = now (passive .entry); starts = now (starts .exit); near = now (near .exit); coef = now (coef .exit); design = now (design .exit); density = now (density .exit); last = now (last .entry) })
         (record { cell = now (cell .exit); order = now (order .exit); first = now (first .exit); sorted = now (sorted .exit); stamp = now (stamp .exit); weight = now (weight .exit); found = now (found .exit); bits = now (bits .exit) })
         (r .history) ⌝ }
 {
     let mut held = history;
-    let told = run::open(
+    let returned = run::open(
         state,
         goal,
         flag,
@@ -72,16 +72,13 @@ pub fn open(
     );
     Turn {
         history: held,
-        told,
+        returned,
     }
 }
 
 pub fn answer(
     state: State,
-    said: Said,
-    flag: bool,
-    elapsed: u64,
-    allowed: u64,
+    heard: Heard,
     energies: &[f64],
     volumes: &[f64],
     passive: &[bool],
@@ -98,22 +95,19 @@ pub fn answer(
     dc: &mut [f64],
     dv: &mut [f64],
 ) -> Turn
-    ensures { λ r. ⌜ Answered state (record { said = said; energies = now (energies .entry); flag = flag; elapsed = elapsed; allowed = allowed })
+    ensures { λ r. ⌜ Answered state (record { heard = heard; energies = now (energies .entry) })
         (record { volumes = now (volumes .entry); passive = now (passive .entry); starts = now (starts .entry); near = now (near .entry); coef = now (coef .entry); design = now (design .entry); density = now (density .entry); last = now (last .entry) })
         (record { free = now (free .entry); slope = now (slope .entry); spare = now (spare .entry); dc = now (dc .entry); dv = now (dv .entry) })
         history
-        (r .told)
+        (r .returned)
         (record { volumes = now (volumes .entry); passive = now (passive .entry); starts = now (starts .entry); near = now (near .entry); coef = now (coef .entry); design = now (design .exit); density = now (density .exit); last = now (last .exit) })
         (record { free = now (free .exit); slope = now (slope .exit); spare = now (spare .exit); dc = now (dc .exit); dv = now (dv .exit) })
         (r .history) ⌝ }
 {
     let mut held = history;
-    let told = run::answer(
+    let returned = run::answer(
         state,
-        said,
-        flag,
-        elapsed,
-        allowed,
+        heard,
         energies,
         volumes,
         passive,
@@ -132,6 +126,6 @@ pub fn answer(
     );
     Turn {
         history: held,
-        told,
+        returned,
     }
 }

@@ -8,14 +8,13 @@ use Rattle.lists.specs.Lists.{choose}
 use Rattle.run_plain.specs.declared.Said.the-variants.{Gave}
 use Rattle.run_plain.specs.declared.Reply.{Reply}
 use Rattle.run_plain.specs.declared.Reply.the-variants.{Refused, Solid, Round, Stop}
-use Rattle.run_plain.specs.Calls.{Lists, Told, Result, answerOf, Asked, openOf, fresh}
-use Rattle.run_answer.specs.Answers.{Core, listsOf}
+use Rattle.run_plain.specs.Calls.{Lists, Core, Arguments, Result, listsOf, answerOf, Asked, openOf, fresh}
 use Rattle.shape_solver.specs.Energies.{energiesOf}
 use Rattle.shape_calls.specs.declared.Turn.{Turn}
 
 -- "solves by energy = weight/(2·modulus(level, 1)), never stopping or running out of time": the answer to densities asked for, n elements
-abbrev pub answerTo : List Float → ℕ → List Float → Told
-answerTo weights n density = record { said = Gave; energies = energiesOf weights density n; flag = false; elapsed = 0; allowed = 1 }
+abbrev pub answerTo : List Float → ℕ → List Float → Arguments
+answerTo weights n density = record { heard = record { said = Gave; flag = false; elapsed = 0; allowed = 1 }; energies = energiesOf weights density n }
 
 -- whether a part is asked for
 abbrev pub asks : Reply → Bool
@@ -36,4 +35,4 @@ jobOf weights n openWork work g l = answersFrom weights n work 65 (openOf fresh 
 
 -- what a call with the history held by value returns and leaves
 abbrev pub resultIn : Turn → Core → Result
-resultIn t l = record { state = t .told .state; reply = t .told .reply; lists = listsOf l (t .history) }
+resultIn t l = record { state = t .returned .state; reply = t .returned .reply; lists = listsOf l (t .history) }

@@ -2,13 +2,17 @@
 ghost use mathlib.Core.Path.{_≡_};
 ghost use mathlib.Core.Bool.{false};
 ghost use lib.ListN.{length};
-ghost use Rattle.run_plain.specs.Calls.{answerOf, fresh as Calls·fresh};
-ghost use Rattle.run_answer.specs.Answers.{listsOf, lengthsOf};
+ghost use Rattle.run_plain.specs.Calls.{listsOf, answerOf, fresh as Calls·fresh};
+ghost use Rattle.run_answer.specs.Answers.{lengthsOf};
 ghost use Rattle.run_open_checks.specs.Opens.{lengthsOf as openLengths};
 ghost use Rattle.shape_job.specs.Job.{asks as Job·asks, answerTo, answersFrom, jobOf, resultIn};
+use run_plain::Compliances;
+use run_plain::Heard;
 use run_plain::Phase;
+use run_plain::Progress;
 use run_plain::Reply;
 use run_plain::Said;
+use run_plain::Setting;
 use run_plain::State;
 use shape_calls::Turn;
 use topo::Goal;
@@ -20,17 +24,23 @@ pub fn fresh() -> State
 {
     State {
         phase: Phase::Idle,
-        elements: 0,
-        entries: 0,
-        fraction: 0.0,
-        sharpen: false,
-        max_iterations: 0,
-        rounds: 0,
-        stage: 0,
-        at_stage: 0,
-        steady: 0,
-        solid_compliance: 0.0,
-        compliance: 0.0,
+        setting: Setting {
+            elements: 0,
+            entries: 0,
+            fraction: 0.0,
+            sharpen: false,
+            max_iterations: 0,
+        },
+        progress: Progress {
+            rounds: 0,
+            stage: 0,
+            at_stage: 0,
+            steady: 0,
+        },
+        compliances: Compliances {
+            solid: 0.0,
+            last: 0.0,
+        },
     }
 }
 
@@ -66,19 +76,22 @@ fn turn(
     dv: &mut [f64],
 ) -> Turn
     ensures { λ r. ⌜ resultIn r (record { volumes = now (volumes .entry); passive = now (passive .entry); starts = now (starts .entry); near = now (near .entry); coef = now (coef .entry); design = now (design .exit); density = now (density .exit); last = now (last .exit) })
-        ≡ answerOf (t .told .state) (answerTo (now (weights .entry)) (length (now (energies .entry))) (now (density .entry)))
+        ≡ answerOf (t .returned .state) (answerTo (now (weights .entry)) (length (now (energies .entry))) (now (density .entry)))
         (lengthsOf (record { free = now (free .entry); slope = now (slope .entry); spare = now (spare .entry); dc = now (dc .entry); dv = now (dv .entry) }))
         (listsOf (record { volumes = now (volumes .entry); passive = now (passive .entry); starts = now (starts .entry); near = now (near .entry); coef = now (coef .entry); design = now (design .entry); density = now (density .entry); last = now (last .entry) }) (t .history)) ⌝ }
 {
     shape_solver::solve(weights, &density[..], energies);
-    let told = t.told;
+    let returned = t.returned;
     let history = t.history;
+    let heard = Heard {
+        said: Said::Gave,
+        flag: false,
+        elapsed: 0,
+        allowed: 1,
+    };
     shape_calls::answer(
-        told.state,
-        Said::Gave,
-        false,
-        0,
-        1,
+        returned.state,
+        heard,
         &energies[..],
         volumes,
         passive,
@@ -126,8 +139,8 @@ fn rounds(
     let mut t = start;
     let mut left = k;
     while left > 0 {
-        let told = t.told;
-        let reply = told.reply;
+        let returned = t.returned;
+        let reply = returned.reply;
         if asks(reply) {
             t = turn(
                 t,

@@ -21,7 +21,7 @@ use Rattle.run_plain.specs.declared.Entry.the-variants.{Kept as KeptOut, Zeroed
 use Rattle.run_plain.specs.Opening.{Opening, entryOf}
 use Rattle.run_plain.specs.Plain.{Part, nothing, solid, round, Checks, Stops}
 use Rattle.run_plain.specs.Runs.{Judge, shortSolid, haltedSolid, failedSolid, countSolid, badSolid, idleSolid, flagSolid, begun, shortRound, haltedFirst, haltedLater, failedRound, countRound, badRound, solved, outOfTurn, First, settled, levelled, limit, budget, stopped, goesOn}
-use Rattle.run_plain.specs.Calls.{Lists, Told, Result, sizesOf, sound, partIn, partOf, checksAt, answerBy, answerOf, solvedBy, stopsAt, recordIn, Asked, openingOf, openBy, openOf, fresh}
+use Rattle.run_plain.specs.Calls.{Lists, Arguments, Result, sizesOf, sound, partIn, partOf, checksAt, answerBy, answerOf, solvedBy, stopsAt, recordIn, Asked, openingOf, openBy, openOf, fresh}
 use Rattle.run_plain.proofs.Verdicts.{first-is, judge-is}
 use Rattle.run_plain.proofs.Formulas.{ready}
 use Rattle.shape_job.specs.Job.{answerTo, asks, answersFrom, jobOf}
@@ -29,8 +29,8 @@ use Rattle.shape_job.proofs.Answers.{answers-over}
 
 -- a state that asks for a part, and how many answers it can take at most
 data Going (s : State) : ℕ → Type 0 where
-  first : s .phase ≡ Solid → s .rounds ≡ 0 → 0 < s .«max_iterations» → Going s (suc (s .«max_iterations»))
-  later : s .phase ≡ Round → s .rounds < s .«max_iterations» → Going s (s .«max_iterations» - s .rounds)
+  first : s .phase ≡ Solid → s .progress .rounds ≡ 0 → 0 < s .setting .«max_iterations» → Going s (suc (s .setting .«max_iterations»))
+  later : s .phase ≡ Round → s .progress .rounds < s .setting .«max_iterations» → Going s (s .setting .«max_iterations» - s .progress .rounds)
 
 going-some : (s : State) (b : ℕ) → Going s b → 0 < b
 going-some s b (first e q h) = omega arith
@@ -117,28 +117,28 @@ not-last t _ (stopped x y z′ w v) e = let z : _≡_ {A = ℕ} 0 1 = cc in absu
 not-last t _ (goesOn x y z′ w v) e = z′
 
 -- ---- one answer
-solved-next : (s : State) (a : Told) (l : Lists) (b : ℕ) (c : Course) → Going s b → s .phase ≡ Round → First (stopsAt s a (recordIn s a l)) c → asks (solvedBy s a l c .reply) ≡ true → Next (solvedBy s a l c .state) b
+solved-next : (s : State) (a : Arguments) (l : Lists) (b : ℕ) (c : Course) → Going s b → s .phase ≡ Round → First (stopsAt s (a .heard) (recordIn s a l)) c → asks (solvedBy s a l c .reply) ≡ true → Next (solvedBy s a l c .state) b
 unfolding stopsAt
 solved-next s a l b (Ends why) g p f e = absurd-of e
 solved-next s a l b Onward (first q z h) p f e = let z : _≡_ {A = ℕ} 0 1 = cc in absurd (omega arith)
 solved-next s a l b Onward (later q h) p f e =
-    let k : suc (s .rounds) < s .«max_iterations» = leb-false (s .«max_iterations») (suc (s .rounds)) (not-last _ _ f refl) in
-    record { few = s .«max_iterations» - suc (s .rounds); going = later refl k; fewer = omega arith }
+    let k : suc (s .progress .rounds) < s .setting .«max_iterations» = leb-false (s .setting .«max_iterations») (suc (s .progress .rounds)) (not-last _ _ f refl) in
+    record { few = s .setting .«max_iterations» - suc (s .progress .rounds); going = later refl k; fewer = omega arith }
 
-verdict-next : (s : State) (a : Told) (l : Lists) (c : Checks) (b : ℕ) (v : Verdict) → Going s b → Judge c (partOf s) v → asks (answerBy s a l v .reply) ≡ true → Next (answerBy s a l v .state) b
+verdict-next : (s : State) (a : Arguments) (l : Lists) (c : Checks) (b : ℕ) (v : Verdict) → Going s b → Judge c (partOf s) v → asks (answerBy s a l v .reply) ≡ true → Next (answerBy s a l v .state) b
 verdict-next s a l c b (Kept n) g j e = absurd-of e
 verdict-next s a l c b (Over n) g j e = absurd-of e
 verdict-next s a l c b Halts g j e = absurd-of e
-verdict-next s a l c b Begins (first q z h) j e = record { few = s .«max_iterations» - s .rounds; going = later refl (omega arith); fewer = omega arith }
+verdict-next s a l c b Begins (first q z h) j e = record { few = s .setting .«max_iterations» - s .progress .rounds; going = later refl (omega arith); fewer = omega arith }
 verdict-next s a l c b Begins (later q h) j e =
     let p = is-solid s (begun-solid (partOf s) c Begins j refl) in
     let z : _≡_ {A = ℕ} 0 1 = cc in
     absurd (omega arith)
 verdict-next s a l c b Solves g j e =
     let m = solved-round (partOf s) c Solves j refl in
-    solved-next s a l b _ g (is-round s (m .number) (m .is)) (first-is (stopsAt s a (recordIn s a l))) e
+    solved-next s a l b _ g (is-round s (m .number) (m .is)) (first-is (stopsAt s (a .heard) (recordIn s a l))) e
 
-answer-next : (s : State) (a : Told) (work : List ℕ) (l : Lists) (b : ℕ) → Going s b → asks (answerOf s a work l .reply) ≡ true → Next (answerOf s a work l .state) b
+answer-next : (s : State) (a : Arguments) (work : List ℕ) (l : Lists) (b : ℕ) → Going s b → asks (answerOf s a work l .reply) ≡ true → Next (answerOf s a work l .state) b
 unfolding answerOf
 answer-next s a work l b g e = verdict-next s a l (checksAt s a (sizesOf work l)) b _ g (judge-is (partOf s) (checksAt s a (sizesOf work l))) e
 

@@ -17,7 +17,7 @@ use Rattle.run_plain.specs.declared.Entry.{Entry}
 use Rattle.run_plain.specs.declared.Entry.the-variants.{Kept as KeptOut, Zeroed, Shut, Opens}
 use Rattle.run_plain.specs.Opening.{Opening, entryOf}
 use Rattle.run_plain.specs.Plain.{judged, firstStop}
-use Rattle.run_plain.specs.Calls.{Lists, Told, sizesOf, partOf, checksAt, answerBy, answerOf, solvedBy, stopsAt, recordIn, Asked, openingOf, openBy, openOf, inTurn, keeps, zeroedLists, lend, giveBack}
+use Rattle.run_plain.specs.Calls.{Lists, Arguments, sizesOf, partOf, checksAt, answerBy, answerOf, solvedBy, stopsAt, recordIn, Asked, openingOf, openBy, openOf, inTurn, keeps, zeroedLists, lend, giveBack}
 
 -- each list at least as long as before
 pub record Grown (l l′ : Lists) : Type 0 where
@@ -59,20 +59,20 @@ wiped z l =
     omega arith
 
 -- ---- an answer
-solved-grows : (s : State) (a : Told) (l : Lists) (c : Course) → Grown l (solvedBy s a l c .lists)
+solved-grows : (s : State) (a : Arguments) (l : Lists) (c : Course) → Grown l (solvedBy s a l c .lists)
 solved-grows s a l (Ends why) =
-    record { volumes = le-refl _; passive = le-refl _; starts = le-refl _; near = le-refl _; coef = le-refl _; design = over _ (l .design); density = le-refl _; last = over _ (l .last); history = put (l .history) (s .rounds) (recordIn s a l) }
+    record { volumes = le-refl _; passive = le-refl _; starts = le-refl _; near = le-refl _; coef = le-refl _; design = over _ (l .design); density = le-refl _; last = over _ (l .last); history = put (l .history) (s .progress .rounds) (recordIn s a l) }
 solved-grows s a l Onward =
-    record { volumes = le-refl _; passive = le-refl _; starts = le-refl _; near = le-refl _; coef = le-refl _; design = over _ (l .design); density = over _ (l .density); last = over _ (l .last); history = put (l .history) (s .rounds) (recordIn s a l) }
+    record { volumes = le-refl _; passive = le-refl _; starts = le-refl _; near = le-refl _; coef = le-refl _; design = over _ (l .design); density = over _ (l .density); last = over _ (l .last); history = put (l .history) (s .progress .rounds) (recordIn s a l) }
 
-by-grows : (s : State) (a : Told) (l : Lists) (v : Verdict) → Grown l (answerBy s a l v .lists)
+by-grows : (s : State) (a : Arguments) (l : Lists) (v : Verdict) → Grown l (answerBy s a l v .lists)
 by-grows s a l (Kept n) = same l
 by-grows s a l (Over n) = same l
 by-grows s a l Halts = same l
 by-grows s a l Begins = record { volumes = le-refl _; passive = le-refl _; starts = le-refl _; near = le-refl _; coef = le-refl _; design = le-refl _; density = over _ (l .density); last = le-refl _; history = le-refl _ }
-by-grows s a l Solves = solved-grows s a l (firstStop (stopsAt s a (recordIn s a l)))
+by-grows s a l Solves = solved-grows s a l (firstStop (stopsAt s (a .heard) (recordIn s a l)))
 
-pub answer-grows : (s : State) (a : Told) (work : List ℕ) (l : Lists) → Grown l (answerOf s a work l .lists)
+pub answer-grows : (s : State) (a : Arguments) (work : List ℕ) (l : Lists) → Grown l (answerOf s a work l .lists)
 unfolding answerOf
 answer-grows s a work l = by-grows s a l (judged (partOf s) (checksAt s a (sizesOf work l)))
 

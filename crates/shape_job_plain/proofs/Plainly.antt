@@ -23,7 +23,7 @@ abbrev next : List Float → ℕ → List ℕ → Result → Result
 next weights n work r = answerOf (r .state) (answerTo weights n (r .lists .density)) work (r .lists)
 
 abbrev call : List Float → ℕ → List ℕ → Result → Call
-call weights n work r = record { lent = sizesOf work (r .lists); told = answerTo weights n (r .lists .density) }
+call weights n work r = record { lent = sizesOf work (r .lists); arguments = answerTo weights n (r .lists .density) }
 
 -- a call with its lists whole leaves what `answerOf` leaves
 result-is : (weights : List Float) (n : ℕ) (work : List ℕ) (r : Result) → resultOf (world r) (call weights n work r) ≡ next weights n work r

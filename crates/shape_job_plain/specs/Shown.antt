@@ -13,7 +13,7 @@ unfoldable pub taken : List Float → ℕ → List ℕ → ℕ → Result → Li
 taken weights n work zero r = []
 taken weights n work (suc k) r =
     choose (asks (r .reply))
-    (record { lent = sizesOf work (r .lists); told = answerTo weights n (r .lists .density) } ∷ taken weights n work k (answerOf (r .state) (answerTo weights n (r .lists .density)) work (r .lists)))
+    (record { lent = sizesOf work (r .lists); arguments = answerTo weights n (r .lists .density) } ∷ taken weights n work k (answerOf (r .state) (answerTo weights n (r .lists .density)) work (r .lists)))
     []
 
 abbrev pub jobCalls : List Float → ℕ → List ℕ → List ℕ → Asked → Lists → List Call

@@ -13,7 +13,7 @@ use Rattle.shape_report.specs.Report.{Outcome, refused, ran}
 -- no job does after its answers (`job-ends`, crates/shape_job_plain/proofs/Ends.antt)
 abbrev pub outcomeBy : Reply → State → List Iteration → List Float → Outcome
 outcomeBy (Refused n) s history last = refused n
-outcomeBy (Stop why) s history last = ran (s .«solid_compliance») (take (s .rounds) history) why (take (s .elements) last)
+outcomeBy (Stop why) s history last = ran (s .compliances .solid) (take (s .progress .rounds) history) why (take (s .setting .elements) last)
 outcomeBy Solid s history last = refused 20
 outcomeBy (Round n) s history last = refused 20
 

@@ -2,7 +2,8 @@
 ghost use mathlib.Core.Path.{_≡_};
 ghost use mathlib.Core.Bool.{false};
 ghost use lib.ListN.{length, take};
-ghost use Rattle.run_answer.specs.Answers.{listsOf, lengthsOf};
+ghost use Rattle.run_plain.specs.Calls.{listsOf};
+ghost use Rattle.run_answer.specs.Answers.{lengthsOf};
 ghost use Rattle.run_open_checks.specs.Opens.{lengthsOf as openLengths};
 ghost use Rattle.shape_job.specs.Job.{jobOf};
 ghost use Rattle.shape_report.specs.Report.{textOf};
@@ -24,11 +25,11 @@ fn front(list: &[f64], n: usize) -> &[f64]
 }
 
 fn outcome(t: Turn, last: &[f64], out: &mut [u8]) -> usize
-    ensures { λ r. ⌜ Wrote (textOf (outcomeBy (t .told .reply) (t .told .state) (t .history) (now (last .entry)))) 0 (now (out .entry)) (now (out .exit)) r ⌝ }
+    ensures { λ r. ⌜ Wrote (textOf (outcomeBy (t .returned .reply) (t .returned .state) (t .history) (now (last .entry)))) 0 (now (out .entry)) (now (out .exit)) r ⌝ }
 {
-    let told = t.told;
-    let state = told.state;
-    let reply = told.reply;
+    let returned = t.returned;
+    let state = returned.state;
+    let reply = returned.reply;
     let history = t.history;
     match reply {
         Reply::Refused(n) => shape_report::refused(out, n),
@@ -36,11 +37,11 @@ fn outcome(t: Turn, last: &[f64], out: &mut [u8]) -> usize
         Reply::Round(_) => shape_report::refused(out, 20),
         Reply::Stop(why) => shape_report::ran(
             out,
-            state.solid_compliance,
+            state.compliances.solid,
             history,
-            state.rounds,
+            state.progress.rounds,
             why,
-            front(last, state.elements),
+            front(last, state.setting.elements),
         ),
     }
 }

@@ -1,10 +1,21 @@
--- `answer` meets its contract: that of `take`, with the state and what the solver said by their numbers, after the test of the phase. Assumes nothing.
+-- `answer` meets its contract: that of `answer_core`, with the state and what was heard by their numbers, after the test of the phase. Assumes nothing.
 use denote.Ref.{now}
 use Rattle.c_numbers.proofs.Laws.{answered-as, not-answered}
 use borrow.Author.Needs.{needs}
 use Rattle.c_calls.proofs.answer.Statement.{statement}
 use Rattle.c_calls.proofs.answer.Tie as tie
 
+-- ---- places: the core was called; the state and the rest were read from their numbers; the entry
+abbrev called : tie.After-step-numbers → tie.After-answer-core
+called c = c
+
+abbrev read : tie.After-answer-core → tie.After-heard-of
+read c = c
+
+abbrev start : tie.After-heard-of → tie.Start
+start c = c
+
+-- ---- the needs
 unknown-requires : tie.Need-unknown-requires
 unknown-requires c κs = search needs
 
@@ -14,14 +25,14 @@ unrecorded-requires c κs = search needs
 returns : tie.Need-returns
 returns c = not-answered _ _ (c .before .before .unknown .ensures) (c .before .if1 .taken) _ _ _ _ _ (c .unrecorded .ensures)
 
-said-of-requires : tie.Need-said-of-requires
-said-of-requires c κs = search needs
-
 state-of-requires : tie.Need-state-of-requires
 state-of-requires c κs = search needs
 
-take-requires : tie.Need-take-requires
-take-requires c κs = search needs
+heard-of-requires : tie.Need-heard-of-requires
+heard-of-requires c κs = search needs
+
+answer-core-requires : tie.Need-answer-core-requires
+answer-core-requires c κs = search needs
 
 step-numbers-requires : tie.Need-step-numbers-requires
 step-numbers-requires c κs = search needs
@@ -52,12 +63,12 @@ same-length-8 c = search needs
 
 returns-2 : tie.Need-returns-2
 returns-2 c =
-    let t = c .before .before .before .before .before .before .before .before .before .before .before .before .before .before .before .before .before in
-    let s = t .before .before .before .before .before .before .before .before .before in
-    let a = s .before .before .before .before .before .before .before .before .before .before .before .before .before .before .before .before .before .before .args in
-    answered-as _ _ (s .before .before .before .unknown .ensures) (s .before .before .if1 .left) _ (s .state-of .ensures)
-    (λ said. record { said = said; energies = now (a .energies); flag = a .flag; elapsed = a .elapsed; allowed = a .allowed })
-    _ _ (s .before .said-of .ensures) _ _ _ _ _ _ _ (c .step-numbers .ensures) (t .take .ensures)
+    let t = called c in
+    let s = read t in
+    let a = start s .args in
+    answered-as _ _ (s .before .before .before .unknown .ensures) (s .before .before .if1 .left) _ (s .before .state-of .ensures)
+    (λ heard. record { heard = heard; energies = now (a .energies) })
+    _ _ (s .heard-of .ensures) _ _ _ _ _ _ _ (c .step-numbers .ensures) (t .answer-core .ensures)
 
 pub answer-spec : {M : Type 1} → statement M
 answer-spec =
@@ -66,9 +77,9 @@ answer-spec =
     unknown-requires
     unrecorded-requires
     returns
-    said-of-requires
     state-of-requires
-    take-requires
+    heard-of-requires
+    answer-core-requires
     step-numbers-requires
     same-length
     same-length-2

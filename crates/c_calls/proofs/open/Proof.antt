@@ -1,9 +1,21 @@
--- `open` meets its contract: that of `take`, with the state by its numbers, after the test of the phase. Assumes nothing.
+-- `open` meets its contract: that of `open_core`, with the state and the goal by their numbers, after the test of the phase. Assumes nothing.
+use denote.Ref.{now}
 use Rattle.c_numbers.proofs.Laws.{opened-as, not-opened}
 use borrow.Author.Needs.{needs}
 use Rattle.c_calls.proofs.open.Statement.{statement}
 use Rattle.c_calls.proofs.open.Tie as tie
 
+-- ---- places: the core was called; the state and the rest were read from their numbers; the entry
+abbrev called : tie.After-returned-numbers → tie.After-open-core
+called c = c
+
+abbrev read : tie.After-open-core → tie.After-goal-of
+read c = c
+
+abbrev start : tie.After-goal-of → tie.Start
+start c = c
+
+-- ---- the needs
 unknown-requires : tie.Need-unknown-requires
 unknown-requires c κs = search needs
 
@@ -16,11 +28,14 @@ returns c = not-opened _ _ (c .before .before .unknown .ensures) (c .before .if1
 state-of-requires : tie.Need-state-of-requires
 state-of-requires c κs = search needs
 
-take-requires : tie.Need-take-requires
-take-requires c κs = search needs
+goal-of-requires : tie.Need-goal-of-requires
+goal-of-requires c κs = search needs
 
-told-numbers-requires : tie.Need-told-numbers-requires
-told-numbers-requires c κs = search needs
+open-core-requires : tie.Need-open-core-requires
+open-core-requires c κs = search needs
+
+returned-numbers-requires : tie.Need-returned-numbers-requires
+returned-numbers-requires c κs = search needs
 
 same-length : tie.Need-same-length
 same-length c = search needs
@@ -63,9 +78,12 @@ same-length-13 c = search needs
 
 returns-2 : tie.Need-returns-2
 returns-2 c =
-    let t = c .before .before .before .before .before .before .before .before .before .before .before .before .before .before .before .before .before .before .before .before .before .before .before .before .before in
-    let s = t .before .before .before .before .before .before .before .before .before .before .before .before .before .before in
-    opened-as _ _ (s .before .before .unknown .ensures) (s .before .if1 .left) _ (s .state-of .ensures) _ _ _ _ _ _ _ _ (c .told-numbers .ensures) (t .take .ensures)
+    let t = called c in
+    let s = read t in
+    let a = start s .args in
+    opened-as _ _ (s .before .before .before .unknown .ensures) (s .before .before .if1 .left) _ (s .before .state-of .ensures)
+    (λ goal. record { centroids = now (a .centroids); mirrors = now (a .mirrors); goal = goal; flag = a .flag })
+    _ _ (s .goal-of .ensures) _ _ _ _ _ _ _ (c .returned-numbers .ensures) (t .open-core .ensures)
 
 pub open-spec : {M : Type 1} → statement M
 open-spec =
@@ -75,8 +93,9 @@ open-spec =
     refused-requires
     returns
     state-of-requires
-    take-requires
-    told-numbers-requires
+    goal-of-requires
+    open-core-requires
+    returned-numbers-requires
     same-length
     same-length-2
     same-length-3

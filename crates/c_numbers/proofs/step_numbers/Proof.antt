@@ -4,8 +4,8 @@ use borrow.Author.Needs.{needs}
 use Rattle.c_numbers.proofs.step_numbers.Statement.{statement}
 use Rattle.c_numbers.proofs.step_numbers.Tie as tie
 
-told-numbers-requires : tie.Need-told-numbers-requires
-told-numbers-requires c κs = search needs
+returned-numbers-requires : tie.Need-returned-numbers-requires
+returned-numbers-requires c κs = search needs
 
 record-numbers-requires : tie.Need-record-numbers-requires
 record-numbers-requires c κs = search needs
@@ -15,4 +15,4 @@ unfolding stepNumbers
 returns c = cc
 
 pub step-numbers-spec : {M : Type 1} → statement M
-step-numbers-spec = tie.close (tie.spec told-numbers-requires record-numbers-requires returns)
+step-numbers-spec = tie.close (tie.spec returned-numbers-requires record-numbers-requires returns)

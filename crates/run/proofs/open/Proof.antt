@@ -1,5 +1,5 @@
--- `run::open` meets its contract: a walk of its MIR, by hand; such walks are long by nature. The core is handed the other parameters whole, and the
--- history is left as it is. Assumes nothing.
+-- `run::open` meets its contract: a walk of its MIR, by hand, written by tools/walks.py. The callee is handed the other parameters whole.
+-- Assumes nothing.
 use mathlib.Core.Path.{refl}
 use Prim.Native.Nat.{ℕ}
 use mathlib.Core.Bool.{Bool}
@@ -31,9 +31,8 @@ use denote.Array.{Array}
 use denote.Ref.{RefT}
 use denote.Slice.{sliceVal, MutSlice, ShrSlice, Room, slice-vals, mut-slice-tells, shr-slice-tells}
 use denote.Signature.{plain}
-use denote.Steps.{owned, peeks, heard, nothing}
+use denote.Steps.{owned, peeks, heard as hears, nothing}
 use denote.Struct.Laws as LL
-use denote.Enum.Laws as EL
 use denote.Triple.Entry.{Args, Vals, onEntry}
 use denote.Triple.Spec.{Meets, tripleOf}
 use denote.Triple.Statement.{Contract, Triple}
@@ -41,26 +40,25 @@ use denote.Triple.Call.{calls-at}
 use denote.Triple.Clauses.{ensured, lasts, Lasts}
 use denote.Triple.Table.{entered, cited}
 use denote.Triple.Walked.{says, Stays, walkOf, goes-slice, Walks, ends-at, walked, walk-meets}
-use Rattle.run_open_checks.specs.Opens.{Opened as Core-Opened}
+use Rattle.run_open_checks.specs.Opens.{CoreOpened}
 use Rattle.run.proofs.Put.{left-so}
 use Rattle.topo.specs.declared.Iteration.{Iteration as Round}
 use Rattle.topo.proofs.Iteration as Ro
-use Rattle.topo.proofs.Iteration.Laws as Ro′
 use Rattle.run_plain.specs.declared.State.{State}
 use Rattle.run_plain.proofs.State as T-State
 use Rattle.run_plain.proofs.State.Laws as T′-State
 use Rattle.topo.specs.declared.Goal.{Goal}
 use Rattle.topo.proofs.Goal as T-Goal
 use Rattle.topo.proofs.Goal.Laws as T′-Goal
-use Rattle.run_answer.specs.declared.Told.{Told}
-use Rattle.run_answer.proofs.Told as T-Told
-use Rattle.run_answer.proofs.Told.Laws as T′-Told
+use Rattle.run_plain.specs.declared.Returned.{Returned}
+use Rattle.run_plain.proofs.Returned as T-Returned
+use Rattle.run_plain.proofs.Returned.Laws as T′-Returned
 use Rattle.run.proofs.Said.{all-said, all-go, all-fit}
 use Rattle.run.proofs.Apart.{conj, tokens, out-at, in-at}
-use Rattle.run_open.proofs.take as core
-use Rattle.run_open.proofs.take.Symbol as core-def
-use Rattle.run_open.proofs.take.Symbol.{name as #core}
-use Rattle.run_open.proofs.take.Met as core-thm
+use Rattle.run_open.proofs.open_core as core
+use Rattle.run_open.proofs.open_core.Symbol as core-def
+use Rattle.run_open.proofs.open_core.Symbol.{name as #core}
+use Rattle.run_open.proofs.open_core.Met as core-thm
 use Rattle.run.proofs.«open».Key.{name as #self}
 use Rattle.run.proofs.«open» as self′
 use Rattle.run.proofs.«open».Statement as stated
@@ -71,10 +69,6 @@ stayed = all-said (self′.ended .signature .params) (self′.ended .kept)
 
 abbrev sl : {X : Type 0} → RefT (List X) → Val
 sl x = sliceVal (x .ptr) (length (x .now))
-
-abbrev tail′ : {X : Type 2} → List X → List X
-tail′ [] = []
-tail′ (x ∷ xs) = xs
 
 module _ {M : Type 1} (𝓤 : URA M) (H : Heap 𝓤) (A : Atoms 𝓤) (mem : Memory → SProp 𝓤) (run : Routine → Fun 𝓤) where
   abbrev Core : Contract 𝓤
@@ -133,16 +127,16 @@ module _ {M : Type 1} (𝓤 : URA M) (H : Heap 𝓤) (A : Atoms 𝓤) (W : Given
   goes-core = qed W (raw (toks 𝓤 A 18 κs qs) ∷ ‵ rest-owns ∷ []) ∵ move ! (1 ∷ []) $ owned ! usize (Is usize) (uint-makes 𝓤 H A W w64) n _ (refl, room-h .0) $ fjoin ! $ move ! (1 ∷ 0 ∷ []) $ join ! $ nothing ! $ move ! (1 ∷ 0 ∷ []) $ frame ! $ done !
 
   -- what the callee says
-  abbrev Claim′ : Told → Lasts core.ended κs (n, rest) → Type 0
-  Claim′ r ws = Core-Opened state (record { centroids = (centroids .now); mirrors = (mirrors .now); goal = goal; flag = flag }) n (record { volumes = (volumes .now); passive = (passive .now); starts = (starts .now); near = (near .now); coef = (coef .now); design = (design .now); density = (density .now); last = (last .now) }) (record { cell = (cell .now); order = (order .now); first = (first .now); sorted = (sorted .now); stamp = (stamp .now); weight = (weight .now); found = (found .now); bits = (bits .now) }) r (record { volumes = (volumes .now); passive = (passive .now); starts = (ws .1 .1 .1 .1 .1 .1 .1 .1 .0); near = (ws .1 .1 .1 .1 .1 .1 .1 .1 .1 .0); coef = (ws .1 .1 .1 .1 .1 .1 .1 .1 .1 .1 .0); design = (ws .1 .1 .1 .1 .1 .1 .1 .1 .1 .1 .1 .0); density = (ws .1 .1 .1 .1 .1 .1 .1 .1 .1 .1 .1 .1 .0); last = (last .now) }) (record { cell = (ws .1 .1 .1 .1 .1 .1 .1 .1 .1 .1 .1 .1 .1 .1 .0); order = (ws .1 .1 .1 .1 .1 .1 .1 .1 .1 .1 .1 .1 .1 .1 .1 .0); first = (ws .1 .1 .1 .1 .1 .1 .1 .1 .1 .1 .1 .1 .1 .1 .1 .1 .0); sorted = (ws .1 .1 .1 .1 .1 .1 .1 .1 .1 .1 .1 .1 .1 .1 .1 .1 .1 .0); stamp = (ws .1 .1 .1 .1 .1 .1 .1 .1 .1 .1 .1 .1 .1 .1 .1 .1 .1 .1 .0); weight = (ws .1 .1 .1 .1 .1 .1 .1 .1 .1 .1 .1 .1 .1 .1 .1 .1 .1 .1 .1 .0); found = (ws .1 .1 .1 .1 .1 .1 .1 .1 .1 .1 .1 .1 .1 .1 .1 .1 .1 .1 .1 .1 .0); bits = (ws .1 .1 .1 .1 .1 .1 .1 .1 .1 .1 .1 .1 .1 .1 .1 .1 .1 .1 .1 .1 .1 .0) })
+  abbrev Claim′ : Returned → Lasts core.ended κs (n, rest) → Type 0
+  Claim′ r ws = CoreOpened state (record { centroids = (centroids .now); mirrors = (mirrors .now); goal = goal; flag = flag }) n (record { volumes = (volumes .now); passive = (passive .now); starts = (starts .now); near = (near .now); coef = (coef .now); design = (design .now); density = (density .now); last = (last .now) }) (record { cell = (cell .now); order = (order .now); first = (first .now); sorted = (sorted .now); stamp = (stamp .now); weight = (weight .now); found = (found .now); bits = (bits .now) }) r (record { volumes = (volumes .now); passive = (passive .now); starts = (ws .1 .1 .1 .1 .1 .1 .1 .1 .0); near = (ws .1 .1 .1 .1 .1 .1 .1 .1 .1 .0); coef = (ws .1 .1 .1 .1 .1 .1 .1 .1 .1 .1 .0); design = (ws .1 .1 .1 .1 .1 .1 .1 .1 .1 .1 .1 .0); density = (ws .1 .1 .1 .1 .1 .1 .1 .1 .1 .1 .1 .1 .0); last = (last .now) }) (record { cell = (ws .1 .1 .1 .1 .1 .1 .1 .1 .1 .1 .1 .1 .1 .1 .0); order = (ws .1 .1 .1 .1 .1 .1 .1 .1 .1 .1 .1 .1 .1 .1 .1 .0); first = (ws .1 .1 .1 .1 .1 .1 .1 .1 .1 .1 .1 .1 .1 .1 .1 .1 .0); sorted = (ws .1 .1 .1 .1 .1 .1 .1 .1 .1 .1 .1 .1 .1 .1 .1 .1 .1 .0); stamp = (ws .1 .1 .1 .1 .1 .1 .1 .1 .1 .1 .1 .1 .1 .1 .1 .1 .1 .1 .0); weight = (ws .1 .1 .1 .1 .1 .1 .1 .1 .1 .1 .1 .1 .1 .1 .1 .1 .1 .1 .1 .0); found = (ws .1 .1 .1 .1 .1 .1 .1 .1 .1 .1 .1 .1 .1 .1 .1 .1 .1 .1 .1 .1 .0); bits = (ws .1 .1 .1 .1 .1 .1 .1 .1 .1 .1 .1 .1 .1 .1 .1 .1 .1 .1 .1 .1 .1 .0) })
 
   abbrev all-ws : Lasts core.ended κs (n, rest) → Lasts self′.ended all-κs all
   all-ws ws = (ws .1 .0, (ws .1 .1 .0, (ws .1 .1 .1 .0, (ws .1 .1 .1 .1 .0, (ws .1 .1 .1 .1 .1 .0, (ws .1 .1 .1 .1 .1 .1 .0, (ws .1 .1 .1 .1 .1 .1 .1 .0, (ws .1 .1 .1 .1 .1 .1 .1 .1 .0, (ws .1 .1 .1 .1 .1 .1 .1 .1 .1 .0, (ws .1 .1 .1 .1 .1 .1 .1 .1 .1 .1 .0, (ws .1 .1 .1 .1 .1 .1 .1 .1 .1 .1 .1 .0, (ws .1 .1 .1 .1 .1 .1 .1 .1 .1 .1 .1 .1 .0, (ws .1 .1 .1 .1 .1 .1 .1 .1 .1 .1 .1 .1 .1 .0, (history .now, (ws .1 .1 .1 .1 .1 .1 .1 .1 .1 .1 .1 .1 .1 .1 .0, (ws .1 .1 .1 .1 .1 .1 .1 .1 .1 .1 .1 .1 .1 .1 .1 .0, (ws .1 .1 .1 .1 .1 .1 .1 .1 .1 .1 .1 .1 .1 .1 .1 .1 .0, (ws .1 .1 .1 .1 .1 .1 .1 .1 .1 .1 .1 .1 .1 .1 .1 .1 .1 .0, (ws .1 .1 .1 .1 .1 .1 .1 .1 .1 .1 .1 .1 .1 .1 .1 .1 .1 .1 .0, (ws .1 .1 .1 .1 .1 .1 .1 .1 .1 .1 .1 .1 .1 .1 .1 .1 .1 .1 .1 .0, (ws .1 .1 .1 .1 .1 .1 .1 .1 .1 .1 .1 .1 .1 .1 .1 .1 .1 .1 .1 .1 .0, (ws .1 .1 .1 .1 .1 .1 .1 .1 .1 .1 .1 .1 .1 .1 .1 .1 .1 .1 .1 .1 .1 .0, tt))))))))))))))))))))))
 
-  exits : (r : Told) (w : Val) (ws : Lasts core.ended κs (n, rest)) → Claim′ r ws
-      → ent 𝓤 (sep 𝓤 (toks 𝓤 A 19 all-κs all-qs) (sep 𝓤 (sem 𝓤 H A (lasts self′.ended all-κs all (all-ws ws))) (sem 𝓤 H A (T-Told.the-row .own r (w ∷ []))))) (Post w)
+  exits : (r : Returned) (w : Val) (ws : Lasts core.ended κs (n, rest)) → Claim′ r ws
+      → ent 𝓤 (sep 𝓤 (toks 𝓤 A 19 all-κs all-qs) (sep 𝓤 (sem 𝓤 H A (lasts self′.ended all-κs all (all-ws ws))) (sem 𝓤 H A (T-Returned.the-row .own r (w ∷ []))))) (Post w)
   exits r w ws e =
-      qed W (raw (toks 𝓤 A 19 all-κs all-qs) ∷ ‵ (lasts self′.ended all-κs all (all-ws ws)) ∷ ‵ (T-Told.the-row .own r (w ∷ [])) ∷ []) ∵
+      qed W (raw (toks 𝓤 A 19 all-κs all-qs) ∷ ‵ (lasts self′.ended all-κs all (all-ws ws)) ∷ ‵ (T-Returned.the-row .own r (w ∷ [])) ∷ []) ∵
       suffices ! _ (ends-at 𝓤 H A self′.ended stayed (self′.clauses 𝓤 H A mem run) W bound w r (all-ws ws) (all-fit (self′.ended .signature .params) (self′.ended .kept) all-κs all (all-ws ws))) $
       says ! (left-so _ _ _ _ _ _ _ _ e) $ frame ! $ frame ! $ done !
 
@@ -204,14 +198,14 @@ module _ {M : Type 1} (𝓤 : URA M) (H : Heap 𝓤) (A : Atoms 𝓤) (W : Given
         assigns ! (addr ! (from ! (fld ! refl (hop ! (look-in ! 54 (sub ! 0 refl (whole !))) (stop !))))) (from ! (stop !)) (init ! 2 refl (tt, tt)) $
         assigns ! (agg ! (and-then ! (load ! (from ! (stop !)) (look ! 2 refl)) (and-then ! (load ! (from ! (fld ! refl (stop !))) (look-in ! 54 (sub ! 1 refl (whole !)))) (no-more !)))) (from ! (stop !)) (init ! 0 refl (tt, (tt, (record { fits = is-bits .0 .1 .0 }, tt)))) $
         move ! (101 ∷ []) $ use1 W (‵ rest-owns ⊛ ‵ h-owns) (out-at 𝓤 H A W before h-owns after) $ split ! $ move ! (102 ∷ []) $ use1 W (raw (toks 𝓤 A 18 κs qs) ⊛ ‵ (flft κ q)) (out-at 𝓤 H A W (tokens 10 (κs .0, (κs .1 .0, (κs .1 .1 .0, (κs .1 .1 .1 .0, (κs .1 .1 .1 .1 .0, (κs .1 .1 .1 .1 .1 .0, (κs .1 .1 .1 .1 .1 .1 .0, (κs .1 .1 .1 .1 .1 .1 .1 .0, (κs .1 .1 .1 .1 .1 .1 .1 .1 .0, (κs .1 .1 .1 .1 .1 .1 .1 .1 .1 .0, tt)))))))))) (qs .0, (qs .1 .0, (qs .1 .1 .0, (qs .1 .1 .1 .0, (qs .1 .1 .1 .1 .0, (qs .1 .1 .1 .1 .1 .0, (qs .1 .1 .1 .1 .1 .1 .0, (qs .1 .1 .1 .1 .1 .1 .1 .0, (qs .1 .1 .1 .1 .1 .1 .1 .1 .0, (qs .1 .1 .1 .1 .1 .1 .1 .1 .1 .0, tt))))))))))) (flft κ q) (tokens 8 (κs .1 .1 .1 .1 .1 .1 .1 .1 .1 .1 .0, (κs .1 .1 .1 .1 .1 .1 .1 .1 .1 .1 .1 .0, (κs .1 .1 .1 .1 .1 .1 .1 .1 .1 .1 .1 .1 .0, (κs .1 .1 .1 .1 .1 .1 .1 .1 .1 .1 .1 .1 .1 .0, (κs .1 .1 .1 .1 .1 .1 .1 .1 .1 .1 .1 .1 .1 .1 .0, (κs .1 .1 .1 .1 .1 .1 .1 .1 .1 .1 .1 .1 .1 .1 .1 .0, (κs .1 .1 .1 .1 .1 .1 .1 .1 .1 .1 .1 .1 .1 .1 .1 .1 .0, (κs .1 .1 .1 .1 .1 .1 .1 .1 .1 .1 .1 .1 .1 .1 .1 .1 .1 .0, tt)))))))) (qs .1 .1 .1 .1 .1 .1 .1 .1 .1 .1 .0, (qs .1 .1 .1 .1 .1 .1 .1 .1 .1 .1 .1 .0, (qs .1 .1 .1 .1 .1 .1 .1 .1 .1 .1 .1 .1 .0, (qs .1 .1 .1 .1 .1 .1 .1 .1 .1 .1 .1 .1 .1 .0, (qs .1 .1 .1 .1 .1 .1 .1 .1 .1 .1 .1 .1 .1 .1 .0, (qs .1 .1 .1 .1 .1 .1 .1 .1 .1 .1 .1 .1 .1 .1 .1 .0, (qs .1 .1 .1 .1 .1 .1 .1 .1 .1 .1 .1 .1 .1 .1 .1 .1 .0, (qs .1 .1 .1 .1 .1 .1 .1 .1 .1 .1 .1 .1 .1 .1 .1 .1 .1 .0, tt)))))))))) $ split ! $ move ! (0 ∷ 2 ∷ []) $ use2 W (raw (Core 𝓤 H A mem run .pre to-core)) goes-core $
-        -- [what `take` asks; the history's token; what it owns; _49; …]
+        -- [what `open_core` asks; the history's token; what it owns; _49; …]
         calls-at ! fm (Core 𝓤 H A mem run) known-core to-core (and-then ! (load ! (from ! (stop !)) (look ! 55 refl)) (and-then ! (load ! (from ! (stop !)) (look ! 99 refl)) (and-then ! (load ! (from ! (stop !)) (look ! 97 refl)) (and-then ! (load ! (from ! (stop !)) (look ! 95 refl)) (and-then ! (load ! (from ! (stop !)) (look ! 93 refl)) (and-then ! (load ! (from ! (stop !)) (look ! 91 refl)) (and-then ! (load ! (from ! (stop !)) (look ! 89 refl)) (and-then ! (load ! (from ! (stop !)) (look ! 87 refl)) (and-then ! (load ! (from ! (stop !)) (look ! 51 refl)) (and-then ! (load ! (from ! (stop !)) (look ! 47 refl)) (and-then ! (load ! (from ! (stop !)) (look ! 43 refl)) (and-then ! (load ! (from ! (stop !)) (look ! 39 refl)) (and-then ! (load ! (from ! (stop !)) (look ! 35 refl)) (and-then ! (load ! (from ! (stop !)) (look ! 75 refl)) (and-then ! (load ! (from ! (stop !)) (look ! 31 refl)) (and-then ! (load ! (from ! (stop !)) (look ! 27 refl)) (and-then ! (load ! (from ! (stop !)) (look ! 23 refl)) (and-then ! (load ! (from ! (stop !)) (look ! 19 refl)) (and-then ! (load ! (from ! (stop !)) (look ! 15 refl)) (and-then ! (load ! (from ! (stop !)) (look ! 11 refl)) (and-then ! (load ! (from ! (stop !)) (look ! 7 refl)) (and-then ! (load ! (from ! (stop !)) (look ! 3 refl)) (no-more !))))))))))))))))))))))) (λ w.
-        use1 W (later (some (λ (r : Told). (raw (toks 𝓤 A 18 κs qs) ⊛ ‵ (T-Told.the-row .own r (w ∷ []))) ⊛ raw (ensured 𝓤 H A core.ended (core.clauses 𝓤 H A mem run) κs (n, rest) tt r)))) (id⊢ 𝓤 _) $ await ! tt $ pick ! (λ r.
+        use1 W (later (some (λ (r : Returned). (raw (toks 𝓤 A 18 κs qs) ⊛ ‵ (T-Returned.the-row .own r (w ∷ []))) ⊛ raw (ensured 𝓤 H A core.ended (core.clauses 𝓤 H A mem run) κs (n, rest) tt r)))) (id⊢ 𝓤 _) $ await ! tt $ pick ! (λ r.
         split ! $ move ! (1 ∷ []) $ use1 W (some (λ (ws : Lasts core.ended κs (n, rest)). ‵ (lasts core.ended κs (n, rest) ws) ⊛ raw (fact 𝓤 (Claim′ r ws)))) (id⊢ 𝓤 _) $ pick ! (λ ws.
-        split ! $ move ! (1 ∷ []) $ heard ! (Claim′ r ws) (λ e. fsplit ! $ drop ! $
-        move ! (1 ∷ []) $ split ! $ move ! (1 ∷ []) $ peeks ! T-Told.the-row (Is T-Told.the-row) (shows 𝓤 H A T-Told.the-row) r (w ∷ []) (λ isw.
+        split ! $ move ! (1 ∷ []) $ hears ! (Claim′ r ws) (λ e. fsplit ! $ drop ! $
+        move ! (1 ∷ []) $ split ! $ move ! (1 ∷ []) $ peeks ! T-Returned.the-row (Is T-Returned.the-row) (shows 𝓤 H A T-Returned.the-row) r (w ∷ []) (λ isw.
         -- [the result; the tokens; what is said; the history's token; what it owns; _49; …]
-        land ! (from ! (stop !)) (init ! 103 refl (LL.lawful T-Told.the-type T′-Told.the-laws 𝓤 H A W .typed r _ isw .0)) $
+        land ! (from ! (stop !)) (init ! 103 refl (LL.lawful T-Returned.the-type T′-Returned.the-laws 𝓤 H A W .typed r _ isw .0)) $
         move ! (4 ∷ []) $ use1 W (later (‵ (left (MutSlice (named 0) κ Ro.the-row .exit yes) history (history .now)))) (goes-slice 𝓤 H A W 1 0 tt (plain (λ _. Ro.the-row)) (κ, tt) history (history .now) (sl history ∷ []) refl) $ await ! tt $
         -- [what is said of the history; the result; the tokens; what is said; the history's token; _49; …]
         returns ! (look ! 103 refl) $ forget ! 5 refl $ forget ! 7 refl $ forget ! 9 refl $ forget ! 11 refl $ forget ! 13 refl $ forget ! 15 refl $ forget ! 17 refl $ forget ! 19 refl $ forget ! 21 refl $ forget ! 23 refl $ forget ! 25 refl $ forget ! 27 refl $ forget ! 29 refl $ forget ! 31 refl $ forget ! 33 refl $ forget ! 35 refl $ forget ! 37 refl $ forget ! 39 refl $ forget ! 41 refl $ forget ! 43 refl $ forget ! 45 refl $ forget ! 47 refl $ forget ! 49 refl $ forget ! 51 refl $ forget ! 53 refl $ forget ! 55 refl $ forget ! 57 refl $ forget ! 59 refl $ forget ! 61 refl $ forget ! 63 refl $ forget ! 65 refl $ forget ! 67 refl $ forget ! 69 refl $ forget ! 71 refl $ forget ! 73 refl $ forget ! 75 refl $ forget ! 77 refl $ forget ! 79 refl $ forget ! 81 refl $ forget ! 83 refl $ forget ! 85 refl $ forget ! 87 refl $ forget ! 89 refl $ forget ! 91 refl $ forget ! 93 refl $ forget ! 95 refl $ forget ! 97 refl $ forget ! 99 refl $ forget ! 101 refl $ forget ! 103 refl $
@@ -239,4 +233,4 @@ open-spec 𝓤 H 𝓜 𝓖 𝓡 =
     entered 𝓤 H (tripleOf 𝓤 H (𝓖 .A) self′.signature (self′.spec 𝓤 H (𝓖 .A) (𝓜 .mem) (𝓡 .run)))
     (tables 𝓤 H 𝓜 𝓡 code.env .C) (tables 𝓤 H 𝓜 𝓡 code.env .Λ) #self code.function (code.unfolded 𝓤 H 𝓜 𝓡)
     (self-meets 𝓤 H (𝓖 .A) (givenOf 𝓤 H 𝓜 𝓖) (𝓜 .mem) (𝓡 .run) (tablesOf 𝓤 H 𝓜 (tables 𝓤 H 𝓜 𝓡 code.env))
-    (cited 𝓤 H (Core 𝓤 H (𝓖 .A) (𝓜 .mem) (𝓡 .run)) 𝓜 𝓡 code.env #core core-def.routine code.calls-run-open·take (core-thm.met 𝓤 H 𝓜 𝓖 𝓡)))
+    (cited 𝓤 H (Core 𝓤 H (𝓖 .A) (𝓜 .mem) (𝓡 .run)) 𝓜 𝓡 code.env #core core-def.routine code.calls-run-open·open-core (core-thm.met 𝓤 H 𝓜 𝓖 𝓡)))

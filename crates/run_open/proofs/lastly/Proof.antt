@@ -46,7 +46,7 @@ returns c =
     let f = c .before .before .before .before .before .before .before .before .before .before .before .before .before .before .before .wipe-work in
     let w′ : Work = record { cell = f .last .0; order = f .last .1 .0; first = f .last .1 .1 .0; sorted = f .last .1 .1 .1 .0; stamp = f .last .1 .1 .1 .1 .0; weight = f .last .1 .1 .1 .1 .1 .0; found = f .last .1 .1 .1 .1 .1 .1 .0; bits = f .last .1 .1 .1 .1 .1 .1 .1 .0 } in
     subst (λ (t : Bool). Lastly t (a .state) (a .goal) (a .entries) (now (a .volumes)) (now (a .passive)) (now (a .design)) (now (a .density)) w (record { state = c .ended .result; reply = Refused 15 }) (now (a .design)) (now (a .density)) w′) (sym (c .before .before .before .before .before .before .before .before .before .before .before .before .before .before .before .before .before .before .before .before .before .before .before .before .if1 .taken))
-    (record { told = λ i. record { state = c .ended .ensures i; reply = Refused 15 }; design = refl; density = refl; work = f .ensures })
+    (record { returned = λ i. record { state = c .ended .ensures i; reply = Refused 15 }; design = refl; density = refl; work = f .ensures })
 
 begin-requires : tie.Need-begin-requires
 begin-requires c κs = search needs
@@ -70,7 +70,7 @@ returns-2 c =
     let x = c .before .before .before .before .before .before .before .begin .last .1 .1 .1 .0 in
     let q = c .before .before .before .ask-solid .last .1 .0 in
     subst (λ (t : Bool). Lastly t (a .state) (a .goal) (a .entries) (now (a .volumes)) (now (a .passive)) (now (a .design)) (now (a .density)) w (record { state = c .opened-state .result; reply = Solid }) x q w) (sym (c .before .before .before .before .before .before .before .before .before .if1 .left))
-    (record { told = λ i. record { state = c .opened-state .ensures i; reply = Solid }; design = c .before .before .before .before .before .before .before .begin .ensures; density = c .before .before .before .ask-solid .ensures; work = refl })
+    (record { returned = λ i. record { state = c .opened-state .ensures i; reply = Solid }; design = c .before .before .before .before .before .before .before .begin .ensures; density = c .before .before .before .ask-solid .ensures; work = refl })
 
 pub lastly-spec : {M : Type 1} → statement M
 lastly-spec =

@@ -1,4 +1,4 @@
--- `shape_calls::open` meets its contract: a walk of its MIR, by hand. The array is lent for a lifetime that the walk makes, and taken back at the last list that the callee says.
+-- `shape_calls::open` meets its contract: a walk of its MIR, by hand, written by tools/walks.py. The array is lent for a lifetime that the walk makes, and taken back at the last list that the callee says.
 -- Assumes nothing.
 use mathlib.Core.Path.{_≡_, refl, sym}
 use Prim.Native.Nat.{ℕ}
@@ -36,9 +36,8 @@ use denote.Array.{Array, array-vals, array-tells, array-lawful}
 use denote.Ref.{RefT}
 use denote.Slice.{sliceTy, sliceVal, MutSlice, ShrSlice, Room, slice-vals, mut-slice-tells, shr-slice-tells}
 use denote.Lend.{Held}
-use denote.Steps.{owned, facts, heard, nothing, only}
+use denote.Steps.{owned, facts, heard as hears, nothing, only}
 use denote.Struct.Laws as LL
-use denote.Enum.Laws as EL
 use denote.Triple.Entry.{Args, Vals, onEntry}
 use denote.Triple.Spec.{Meets, tripleOf}
 use denote.Triple.Statement.{Contract, Triple}
@@ -57,9 +56,9 @@ use Rattle.run_plain.proofs.State.Laws as T′-State
 use Rattle.topo.specs.declared.Goal.{Goal}
 use Rattle.topo.proofs.Goal as T-Goal
 use Rattle.topo.proofs.Goal.Laws as T′-Goal
-use Rattle.run_answer.specs.declared.Told.{Told}
-use Rattle.run_answer.proofs.Told as T-Told
-use Rattle.run_answer.proofs.Told.Laws as T′-Told
+use Rattle.run_plain.specs.declared.Returned.{Returned}
+use Rattle.run_plain.proofs.Returned as T-Returned
+use Rattle.run_plain.proofs.Returned.Laws as T′-Returned
 use Rattle.shape_calls.specs.declared.Turn.{Turn}
 use Rattle.shape_calls.proofs.Turn as T-Turn
 use Rattle.shape_calls.proofs.Turn.Laws as T′-Turn
@@ -160,15 +159,15 @@ module _ {M : Type 1} (𝓤 : URA M) (H : Heap 𝓤) (A : Atoms 𝓤) (W : Given
     goes-core = qed W (raw (toks 𝓤 A 19 out-κs out-qs) ∷ ‵ (conj (before ++ h-owns ∷ after)) ∷ []) ∵ join ! $ nothing ! $ move ! (1 ∷ 0 ∷ []) $ frame ! $ done !
 
     -- what the callee says
-    abbrev Claim′ : Told → Lasts core.ended out-κs out-all → Type 0
+    abbrev Claim′ : Returned → Lasts core.ended out-κs out-all → Type 0
     Claim′ r ws = Opened state (record { centroids = (centroids .now); mirrors = (mirrors .now); goal = goal; flag = flag }) (record { volumes = (volumes .now); passive = (passive .now); starts = (starts .now); near = (near .now); coef = (coef .now); design = (design .now); density = (density .now); last = (last .now) }) (record { cell = (cell .now); order = (order .now); first = (first .now); sorted = (sorted .now); stamp = (stamp .now); weight = (weight .now); found = (found .now); bits = (bits .now) }) rs r (record { volumes = (volumes .now); passive = (passive .now); starts = (ws .1 .1 .1 .1 .1 .1 .1 .0); near = (ws .1 .1 .1 .1 .1 .1 .1 .1 .0); coef = (ws .1 .1 .1 .1 .1 .1 .1 .1 .1 .0); design = (ws .1 .1 .1 .1 .1 .1 .1 .1 .1 .1 .0); density = (ws .1 .1 .1 .1 .1 .1 .1 .1 .1 .1 .1 .0); last = (last .now) }) (record { cell = (ws .1 .1 .1 .1 .1 .1 .1 .1 .1 .1 .1 .1 .1 .1 .0); order = (ws .1 .1 .1 .1 .1 .1 .1 .1 .1 .1 .1 .1 .1 .1 .1 .0); first = (ws .1 .1 .1 .1 .1 .1 .1 .1 .1 .1 .1 .1 .1 .1 .1 .1 .0); sorted = (ws .1 .1 .1 .1 .1 .1 .1 .1 .1 .1 .1 .1 .1 .1 .1 .1 .1 .0); stamp = (ws .1 .1 .1 .1 .1 .1 .1 .1 .1 .1 .1 .1 .1 .1 .1 .1 .1 .1 .0); weight = (ws .1 .1 .1 .1 .1 .1 .1 .1 .1 .1 .1 .1 .1 .1 .1 .1 .1 .1 .1 .0); found = (ws .1 .1 .1 .1 .1 .1 .1 .1 .1 .1 .1 .1 .1 .1 .1 .1 .1 .1 .1 .1 .0); bits = (ws .1 .1 .1 .1 .1 .1 .1 .1 .1 .1 .1 .1 .1 .1 .1 .1 .1 .1 .1 .1 .1 .0) }) (ws .1 .1 .1 .1 .1 .1 .1 .1 .1 .1 .1 .1 .1 .0)
 
     abbrev mach : Val → Val → Val
     mach v w = vstruct (vcons v (vcons w vnil))
 
-    module _ (r : Told) (w : Val) (is-r : Is T-Told.the-row r (w ∷ [])) (ws : Lasts core.ended out-κs out-all) (v : Val) (is-v : Is Arr (ws .1 .1 .1 .1 .1 .1 .1 .1 .1 .1 .1 .1 .1 .0) (v ∷ [])) where
+    module _ (r : Returned) (w : Val) (is-r : Is T-Returned.the-row r (w ∷ [])) (ws : Lasts core.ended out-κs out-all) (v : Val) (is-v : Is Arr (ws .1 .1 .1 .1 .1 .1 .1 .1 .1 .1 .1 .1 .1 .0) (v ∷ [])) where
       abbrev out : Turn
-      out = record { history = ws .1 .1 .1 .1 .1 .1 .1 .1 .1 .1 .1 .1 .1 .0; told = r }
+      out = record { history = ws .1 .1 .1 .1 .1 .1 .1 .1 .1 .1 .1 .1 .1 .0; returned = r }
 
       is-out : Is T-Turn.the-row out (mach v w ∷ [])
       is-out = ((v ∷ [], (w ∷ [], tt)), (refl, (is-same (Ro.the-field .row) (Ro.the-field .Value) (Ro.the-field .into) (Ro.the-field .into-one) 64 (ws .1 .1 .1 .1 .1 .1 .1 .1 .1 .1 .1 .1 .1 .0) (v ∷ []) is-v, (is-r, tt))))
@@ -252,13 +251,13 @@ module _ {M : Type 1} (𝓤 : URA M) (H : Heap 𝓤) (A : Atoms 𝓤) (W : Given
         move ! (110 ∷ 2 ∷ []) $ use2 W (raw (toks 𝓤 A 19 (out-κs l23 α γ) (out-qs l23 α γ))) (in-at 𝓤 H A W (tokens 10 (κs .0, (κs .1 .0, (κs .1 .1 .0, (κs .1 .1 .1 .0, (κs .1 .1 .1 .1 .0, (κs .1 .1 .1 .1 .1 .0, (κs .1 .1 .1 .1 .1 .1 .0, (κs .1 .1 .1 .1 .1 .1 .1 .0, (κs .1 .1 .1 .1 .1 .1 .1 .1 .0, (κs .1 .1 .1 .1 .1 .1 .1 .1 .1 .0, tt)))))))))) (qs .0, (qs .1 .0, (qs .1 .1 .0, (qs .1 .1 .1 .0, (qs .1 .1 .1 .1 .0, (qs .1 .1 .1 .1 .1 .0, (qs .1 .1 .1 .1 .1 .1 .0, (qs .1 .1 .1 .1 .1 .1 .1 .0, (qs .1 .1 .1 .1 .1 .1 .1 .1 .0, (qs .1 .1 .1 .1 .1 .1 .1 .1 .1 .0, tt))))))))))) (flft (α ∷ []) fullShare) (tokens 8 (κs .1 .1 .1 .1 .1 .1 .1 .1 .1 .1 .0, (κs .1 .1 .1 .1 .1 .1 .1 .1 .1 .1 .1 .0, (κs .1 .1 .1 .1 .1 .1 .1 .1 .1 .1 .1 .1 .0, (κs .1 .1 .1 .1 .1 .1 .1 .1 .1 .1 .1 .1 .1 .0, (κs .1 .1 .1 .1 .1 .1 .1 .1 .1 .1 .1 .1 .1 .1 .0, (κs .1 .1 .1 .1 .1 .1 .1 .1 .1 .1 .1 .1 .1 .1 .1 .0, (κs .1 .1 .1 .1 .1 .1 .1 .1 .1 .1 .1 .1 .1 .1 .1 .1 .0, (κs .1 .1 .1 .1 .1 .1 .1 .1 .1 .1 .1 .1 .1 .1 .1 .1 .1 .0, tt)))))))) (qs .1 .1 .1 .1 .1 .1 .1 .1 .1 .1 .0, (qs .1 .1 .1 .1 .1 .1 .1 .1 .1 .1 .1 .0, (qs .1 .1 .1 .1 .1 .1 .1 .1 .1 .1 .1 .1 .0, (qs .1 .1 .1 .1 .1 .1 .1 .1 .1 .1 .1 .1 .1 .0, (qs .1 .1 .1 .1 .1 .1 .1 .1 .1 .1 .1 .1 .1 .1 .0, (qs .1 .1 .1 .1 .1 .1 .1 .1 .1 .1 .1 .1 .1 .1 .1 .0, (qs .1 .1 .1 .1 .1 .1 .1 .1 .1 .1 .1 .1 .1 .1 .1 .1 .0, (qs .1 .1 .1 .1 .1 .1 .1 .1 .1 .1 .1 .1 .1 .1 .1 .1 .1 .0, tt)))))))))) $ use2 W (raw (Core 𝓤 H A mem run .pre (to-core l23 α γ))) (goes-core l23 α γ) $
         -- [what the callee asks; what the lender keeps; the locals]
         calls-at ! fm (Core 𝓤 H A mem run) known-core (to-core l23 α γ) (and-then ! (load ! (from ! (stop !)) (look ! 105 refl)) (and-then ! (load ! (from ! (stop !)) (look ! 103 refl)) (and-then ! (load ! (from ! (stop !)) (look ! 101 refl)) (and-then ! (load ! (from ! (stop !)) (look ! 99 refl)) (and-then ! (load ! (from ! (stop !)) (look ! 97 refl)) (and-then ! (load ! (from ! (stop !)) (look ! 95 refl)) (and-then ! (load ! (from ! (stop !)) (look ! 93 refl)) (and-then ! (load ! (from ! (stop !)) (look ! 56 refl)) (and-then ! (load ! (from ! (stop !)) (look ! 52 refl)) (and-then ! (load ! (from ! (stop !)) (look ! 48 refl)) (and-then ! (load ! (from ! (stop !)) (look ! 44 refl)) (and-then ! (load ! (from ! (stop !)) (look ! 40 refl)) (and-then ! (load ! (from ! (stop !)) (look ! 81 refl)) (and-then ! (load ! (from ! (stop !)) (look ! 36 refl)) (and-then ! (load ! (from ! (stop !)) (look ! 32 refl)) (and-then ! (load ! (from ! (stop !)) (look ! 28 refl)) (and-then ! (load ! (from ! (stop !)) (look ! 24 refl)) (and-then ! (load ! (from ! (stop !)) (look ! 20 refl)) (and-then ! (load ! (from ! (stop !)) (look ! 16 refl)) (and-then ! (load ! (from ! (stop !)) (look ! 12 refl)) (and-then ! (load ! (from ! (stop !)) (look ! 8 refl)) (and-then ! (load ! (from ! (stop !)) (look ! 4 refl)) (no-more !))))))))))))))))))))))) (λ w.
-        use1 W (later (some (λ (r : Told). (raw (toks 𝓤 A 19 (out-κs l23 α γ) (out-qs l23 α γ)) ⊛ ‵ (T-Told.the-row .own r (w ∷ []))) ⊛ raw (ensured 𝓤 H A core.ended (core.clauses 𝓤 H A mem run) (out-κs l23 α γ) (out-all l23 α γ) tt r)))) (id⊢ 𝓤 _) $ await ! tt $ pick ! (λ r.
+        use1 W (later (some (λ (r : Returned). (raw (toks 𝓤 A 19 (out-κs l23 α γ) (out-qs l23 α γ)) ⊛ ‵ (T-Returned.the-row .own r (w ∷ []))) ⊛ raw (ensured 𝓤 H A core.ended (core.clauses 𝓤 H A mem run) (out-κs l23 α γ) (out-all l23 α γ) tt r)))) (id⊢ 𝓤 _) $ await ! tt $ pick ! (λ r.
         split ! $ move ! (1 ∷ []) $ use1 W (some (λ (ws : Lasts core.ended (out-κs l23 α γ) (out-all l23 α γ)). ‵ (lasts core.ended (out-κs l23 α γ) (out-all l23 α γ) ws) ⊛ raw (fact 𝓤 (Claim′ l23 α γ r ws)))) (id⊢ 𝓤 _) $ pick ! (λ ws.
-        split ! $ move ! (1 ∷ []) $ heard ! (Claim′ l23 α γ r ws) (λ e. use1 W (‵ (conj ((left ((T-State.the-row) .exit yes) state (ws .0) ∷ left ((T-Goal.the-row) .exit yes) goal (ws .1 .0) ∷ left ((Boolean) .exit yes) flag (ws .1 .1 .0) ∷ left ((ShrSlice (named 0) (κs .0) f64) .exit yes) volumes (ws .1 .1 .1 .0) ∷ left ((ShrSlice (named 1) (κs .1 .0) (Array f64 3)) .exit yes) centroids (ws .1 .1 .1 .1 .0) ∷ left ((ShrSlice (named 2) (κs .1 .1 .0) Boolean) .exit yes) passive (ws .1 .1 .1 .1 .1 .0) ∷ left ((ShrSlice (named 3) (κs .1 .1 .1 .0) (Array f64 6)) .exit yes) mirrors (ws .1 .1 .1 .1 .1 .1 .0) ∷ left ((MutSlice (named 4) (κs .1 .1 .1 .1 .0) u32) .exit yes) starts (ws .1 .1 .1 .1 .1 .1 .1 .0) ∷ left ((MutSlice (named 5) (κs .1 .1 .1 .1 .1 .0) u32) .exit yes) near (ws .1 .1 .1 .1 .1 .1 .1 .1 .0) ∷ left ((MutSlice (named 6) (κs .1 .1 .1 .1 .1 .1 .0) f64) .exit yes) coef (ws .1 .1 .1 .1 .1 .1 .1 .1 .1 .0) ∷ left ((MutSlice (named 7) (κs .1 .1 .1 .1 .1 .1 .1 .0) f64) .exit yes) design (ws .1 .1 .1 .1 .1 .1 .1 .1 .1 .1 .0) ∷ left ((MutSlice (named 8) (κs .1 .1 .1 .1 .1 .1 .1 .1 .0) f64) .exit yes) density (ws .1 .1 .1 .1 .1 .1 .1 .1 .1 .1 .1 .0) ∷ left ((ShrSlice (named 9) (κs .1 .1 .1 .1 .1 .1 .1 .1 .1 .0) f64) .exit yes) last (ws .1 .1 .1 .1 .1 .1 .1 .1 .1 .1 .1 .1 .0) ∷ []) ++ (left ((MutSlice (named 10) (κs .1 .1 .1 .1 .1 .1 .1 .1 .1 .1 .0) (Array u64 3)) .exit yes) cell (ws .1 .1 .1 .1 .1 .1 .1 .1 .1 .1 .1 .1 .1 .1 .0) ∷ left ((MutSlice (named 11) (κs .1 .1 .1 .1 .1 .1 .1 .1 .1 .1 .1 .0) u32) .exit yes) order (ws .1 .1 .1 .1 .1 .1 .1 .1 .1 .1 .1 .1 .1 .1 .1 .0) ∷ left ((MutSlice (named 12) (κs .1 .1 .1 .1 .1 .1 .1 .1 .1 .1 .1 .1 .0) u32) .exit yes) first (ws .1 .1 .1 .1 .1 .1 .1 .1 .1 .1 .1 .1 .1 .1 .1 .1 .0) ∷ left ((MutSlice (named 13) (κs .1 .1 .1 .1 .1 .1 .1 .1 .1 .1 .1 .1 .1 .0) (Array f64 3)) .exit yes) sorted (ws .1 .1 .1 .1 .1 .1 .1 .1 .1 .1 .1 .1 .1 .1 .1 .1 .1 .0) ∷ left ((MutSlice (named 14) (κs .1 .1 .1 .1 .1 .1 .1 .1 .1 .1 .1 .1 .1 .1 .0) u32) .exit yes) stamp (ws .1 .1 .1 .1 .1 .1 .1 .1 .1 .1 .1 .1 .1 .1 .1 .1 .1 .1 .0) ∷ left ((MutSlice (named 15) (κs .1 .1 .1 .1 .1 .1 .1 .1 .1 .1 .1 .1 .1 .1 .1 .0) f64) .exit yes) weight (ws .1 .1 .1 .1 .1 .1 .1 .1 .1 .1 .1 .1 .1 .1 .1 .1 .1 .1 .1 .0) ∷ left ((MutSlice (named 16) (κs .1 .1 .1 .1 .1 .1 .1 .1 .1 .1 .1 .1 .1 .1 .1 .1 .0) u32) .exit yes) found (ws .1 .1 .1 .1 .1 .1 .1 .1 .1 .1 .1 .1 .1 .1 .1 .1 .1 .1 .1 .1 .0) ∷ left ((MutSlice (named 17) (κs .1 .1 .1 .1 .1 .1 .1 .1 .1 .1 .1 .1 .1 .1 .1 .1 .1 .0) u64) .exit yes) bits (ws .1 .1 .1 .1 .1 .1 .1 .1 .1 .1 .1 .1 .1 .1 .1 .1 .1 .1 .1 .1 .1 .0) ∷ []))) ⊛ ‵ (left (MutSlice (named 0) (α ∷ []) Ro.the-row .exit yes) (h′ l23 α γ) (ws .1 .1 .1 .1 .1 .1 .1 .1 .1 .1 .1 .1 .1 .0))) (out-at 𝓤 H A W (left ((T-State.the-row) .exit yes) state (ws .0) ∷ left ((T-Goal.the-row) .exit yes) goal (ws .1 .0) ∷ left ((Boolean) .exit yes) flag (ws .1 .1 .0) ∷ left ((ShrSlice (named 0) (κs .0) f64) .exit yes) volumes (ws .1 .1 .1 .0) ∷ left ((ShrSlice (named 1) (κs .1 .0) (Array f64 3)) .exit yes) centroids (ws .1 .1 .1 .1 .0) ∷ left ((ShrSlice (named 2) (κs .1 .1 .0) Boolean) .exit yes) passive (ws .1 .1 .1 .1 .1 .0) ∷ left ((ShrSlice (named 3) (κs .1 .1 .1 .0) (Array f64 6)) .exit yes) mirrors (ws .1 .1 .1 .1 .1 .1 .0) ∷ left ((MutSlice (named 4) (κs .1 .1 .1 .1 .0) u32) .exit yes) starts (ws .1 .1 .1 .1 .1 .1 .1 .0) ∷ left ((MutSlice (named 5) (κs .1 .1 .1 .1 .1 .0) u32) .exit yes) near (ws .1 .1 .1 .1 .1 .1 .1 .1 .0) ∷ left ((MutSlice (named 6) (κs .1 .1 .1 .1 .1 .1 .0) f64) .exit yes) coef (ws .1 .1 .1 .1 .1 .1 .1 .1 .1 .0) ∷ left ((MutSlice (named 7) (κs .1 .1 .1 .1 .1 .1 .1 .0) f64) .exit yes) design (ws .1 .1 .1 .1 .1 .1 .1 .1 .1 .1 .0) ∷ left ((MutSlice (named 8) (κs .1 .1 .1 .1 .1 .1 .1 .1 .0) f64) .exit yes) density (ws .1 .1 .1 .1 .1 .1 .1 .1 .1 .1 .1 .0) ∷ left ((ShrSlice (named 9) (κs .1 .1 .1 .1 .1 .1 .1 .1 .1 .0) f64) .exit yes) last (ws .1 .1 .1 .1 .1 .1 .1 .1 .1 .1 .1 .1 .0) ∷ []) (left (MutSlice (named 0) (α ∷ []) Ro.the-row .exit yes) (h′ l23 α γ) (ws .1 .1 .1 .1 .1 .1 .1 .1 .1 .1 .1 .1 .1 .0)) (left ((MutSlice (named 10) (κs .1 .1 .1 .1 .1 .1 .1 .1 .1 .1 .0) (Array u64 3)) .exit yes) cell (ws .1 .1 .1 .1 .1 .1 .1 .1 .1 .1 .1 .1 .1 .1 .0) ∷ left ((MutSlice (named 11) (κs .1 .1 .1 .1 .1 .1 .1 .1 .1 .1 .1 .0) u32) .exit yes) order (ws .1 .1 .1 .1 .1 .1 .1 .1 .1 .1 .1 .1 .1 .1 .1 .0) ∷ left ((MutSlice (named 12) (κs .1 .1 .1 .1 .1 .1 .1 .1 .1 .1 .1 .1 .0) u32) .exit yes) first (ws .1 .1 .1 .1 .1 .1 .1 .1 .1 .1 .1 .1 .1 .1 .1 .1 .0) ∷ left ((MutSlice (named 13) (κs .1 .1 .1 .1 .1 .1 .1 .1 .1 .1 .1 .1 .1 .0) (Array f64 3)) .exit yes) sorted (ws .1 .1 .1 .1 .1 .1 .1 .1 .1 .1 .1 .1 .1 .1 .1 .1 .1 .0) ∷ left ((MutSlice (named 14) (κs .1 .1 .1 .1 .1 .1 .1 .1 .1 .1 .1 .1 .1 .1 .0) u32) .exit yes) stamp (ws .1 .1 .1 .1 .1 .1 .1 .1 .1 .1 .1 .1 .1 .1 .1 .1 .1 .1 .0) ∷ left ((MutSlice (named 15) (κs .1 .1 .1 .1 .1 .1 .1 .1 .1 .1 .1 .1 .1 .1 .1 .0) f64) .exit yes) weight (ws .1 .1 .1 .1 .1 .1 .1 .1 .1 .1 .1 .1 .1 .1 .1 .1 .1 .1 .1 .0) ∷ left ((MutSlice (named 16) (κs .1 .1 .1 .1 .1 .1 .1 .1 .1 .1 .1 .1 .1 .1 .1 .1 .0) u32) .exit yes) found (ws .1 .1 .1 .1 .1 .1 .1 .1 .1 .1 .1 .1 .1 .1 .1 .1 .1 .1 .1 .1 .0) ∷ left ((MutSlice (named 17) (κs .1 .1 .1 .1 .1 .1 .1 .1 .1 .1 .1 .1 .1 .1 .1 .1 .1 .0) u64) .exit yes) bits (ws .1 .1 .1 .1 .1 .1 .1 .1 .1 .1 .1 .1 .1 .1 .1 .1 .1 .1 .1 .1 .1 .0) ∷ [])) $ split ! $ move ! (1 ∷ []) $ fsplit ! $ move ! (1 ∷ []) $ drop ! $
+        split ! $ move ! (1 ∷ []) $ hears ! (Claim′ l23 α γ r ws) (λ e. use1 W (‵ (conj ((left ((T-State.the-row) .exit yes) state (ws .0) ∷ left ((T-Goal.the-row) .exit yes) goal (ws .1 .0) ∷ left ((Boolean) .exit yes) flag (ws .1 .1 .0) ∷ left ((ShrSlice (named 0) (κs .0) f64) .exit yes) volumes (ws .1 .1 .1 .0) ∷ left ((ShrSlice (named 1) (κs .1 .0) (Array f64 3)) .exit yes) centroids (ws .1 .1 .1 .1 .0) ∷ left ((ShrSlice (named 2) (κs .1 .1 .0) Boolean) .exit yes) passive (ws .1 .1 .1 .1 .1 .0) ∷ left ((ShrSlice (named 3) (κs .1 .1 .1 .0) (Array f64 6)) .exit yes) mirrors (ws .1 .1 .1 .1 .1 .1 .0) ∷ left ((MutSlice (named 4) (κs .1 .1 .1 .1 .0) u32) .exit yes) starts (ws .1 .1 .1 .1 .1 .1 .1 .0) ∷ left ((MutSlice (named 5) (κs .1 .1 .1 .1 .1 .0) u32) .exit yes) near (ws .1 .1 .1 .1 .1 .1 .1 .1 .0) ∷ left ((MutSlice (named 6) (κs .1 .1 .1 .1 .1 .1 .0) f64) .exit yes) coef (ws .1 .1 .1 .1 .1 .1 .1 .1 .1 .0) ∷ left ((MutSlice (named 7) (κs .1 .1 .1 .1 .1 .1 .1 .0) f64) .exit yes) design (ws .1 .1 .1 .1 .1 .1 .1 .1 .1 .1 .0) ∷ left ((MutSlice (named 8) (κs .1 .1 .1 .1 .1 .1 .1 .1 .0) f64) .exit yes) density (ws .1 .1 .1 .1 .1 .1 .1 .1 .1 .1 .1 .0) ∷ left ((ShrSlice (named 9) (κs .1 .1 .1 .1 .1 .1 .1 .1 .1 .0) f64) .exit yes) last (ws .1 .1 .1 .1 .1 .1 .1 .1 .1 .1 .1 .1 .0) ∷ []) ++ (left ((MutSlice (named 10) (κs .1 .1 .1 .1 .1 .1 .1 .1 .1 .1 .0) (Array u64 3)) .exit yes) cell (ws .1 .1 .1 .1 .1 .1 .1 .1 .1 .1 .1 .1 .1 .1 .0) ∷ left ((MutSlice (named 11) (κs .1 .1 .1 .1 .1 .1 .1 .1 .1 .1 .1 .0) u32) .exit yes) order (ws .1 .1 .1 .1 .1 .1 .1 .1 .1 .1 .1 .1 .1 .1 .1 .0) ∷ left ((MutSlice (named 12) (κs .1 .1 .1 .1 .1 .1 .1 .1 .1 .1 .1 .1 .0) u32) .exit yes) first (ws .1 .1 .1 .1 .1 .1 .1 .1 .1 .1 .1 .1 .1 .1 .1 .1 .0) ∷ left ((MutSlice (named 13) (κs .1 .1 .1 .1 .1 .1 .1 .1 .1 .1 .1 .1 .1 .0) (Array f64 3)) .exit yes) sorted (ws .1 .1 .1 .1 .1 .1 .1 .1 .1 .1 .1 .1 .1 .1 .1 .1 .1 .0) ∷ left ((MutSlice (named 14) (κs .1 .1 .1 .1 .1 .1 .1 .1 .1 .1 .1 .1 .1 .1 .0) u32) .exit yes) stamp (ws .1 .1 .1 .1 .1 .1 .1 .1 .1 .1 .1 .1 .1 .1 .1 .1 .1 .1 .0) ∷ left ((MutSlice (named 15) (κs .1 .1 .1 .1 .1 .1 .1 .1 .1 .1 .1 .1 .1 .1 .1 .0) f64) .exit yes) weight (ws .1 .1 .1 .1 .1 .1 .1 .1 .1 .1 .1 .1 .1 .1 .1 .1 .1 .1 .1 .0) ∷ left ((MutSlice (named 16) (κs .1 .1 .1 .1 .1 .1 .1 .1 .1 .1 .1 .1 .1 .1 .1 .1 .0) u32) .exit yes) found (ws .1 .1 .1 .1 .1 .1 .1 .1 .1 .1 .1 .1 .1 .1 .1 .1 .1 .1 .1 .1 .0) ∷ left ((MutSlice (named 17) (κs .1 .1 .1 .1 .1 .1 .1 .1 .1 .1 .1 .1 .1 .1 .1 .1 .1 .0) u64) .exit yes) bits (ws .1 .1 .1 .1 .1 .1 .1 .1 .1 .1 .1 .1 .1 .1 .1 .1 .1 .1 .1 .1 .1 .0) ∷ []))) ⊛ ‵ (left (MutSlice (named 0) (α ∷ []) Ro.the-row .exit yes) (h′ l23 α γ) (ws .1 .1 .1 .1 .1 .1 .1 .1 .1 .1 .1 .1 .1 .0))) (out-at 𝓤 H A W (left ((T-State.the-row) .exit yes) state (ws .0) ∷ left ((T-Goal.the-row) .exit yes) goal (ws .1 .0) ∷ left ((Boolean) .exit yes) flag (ws .1 .1 .0) ∷ left ((ShrSlice (named 0) (κs .0) f64) .exit yes) volumes (ws .1 .1 .1 .0) ∷ left ((ShrSlice (named 1) (κs .1 .0) (Array f64 3)) .exit yes) centroids (ws .1 .1 .1 .1 .0) ∷ left ((ShrSlice (named 2) (κs .1 .1 .0) Boolean) .exit yes) passive (ws .1 .1 .1 .1 .1 .0) ∷ left ((ShrSlice (named 3) (κs .1 .1 .1 .0) (Array f64 6)) .exit yes) mirrors (ws .1 .1 .1 .1 .1 .1 .0) ∷ left ((MutSlice (named 4) (κs .1 .1 .1 .1 .0) u32) .exit yes) starts (ws .1 .1 .1 .1 .1 .1 .1 .0) ∷ left ((MutSlice (named 5) (κs .1 .1 .1 .1 .1 .0) u32) .exit yes) near (ws .1 .1 .1 .1 .1 .1 .1 .1 .0) ∷ left ((MutSlice (named 6) (κs .1 .1 .1 .1 .1 .1 .0) f64) .exit yes) coef (ws .1 .1 .1 .1 .1 .1 .1 .1 .1 .0) ∷ left ((MutSlice (named 7) (κs .1 .1 .1 .1 .1 .1 .1 .0) f64) .exit yes) design (ws .1 .1 .1 .1 .1 .1 .1 .1 .1 .1 .0) ∷ left ((MutSlice (named 8) (κs .1 .1 .1 .1 .1 .1 .1 .1 .0) f64) .exit yes) density (ws .1 .1 .1 .1 .1 .1 .1 .1 .1 .1 .1 .0) ∷ left ((ShrSlice (named 9) (κs .1 .1 .1 .1 .1 .1 .1 .1 .1 .0) f64) .exit yes) last (ws .1 .1 .1 .1 .1 .1 .1 .1 .1 .1 .1 .1 .0) ∷ []) (left (MutSlice (named 0) (α ∷ []) Ro.the-row .exit yes) (h′ l23 α γ) (ws .1 .1 .1 .1 .1 .1 .1 .1 .1 .1 .1 .1 .1 .0)) (left ((MutSlice (named 10) (κs .1 .1 .1 .1 .1 .1 .1 .1 .1 .1 .0) (Array u64 3)) .exit yes) cell (ws .1 .1 .1 .1 .1 .1 .1 .1 .1 .1 .1 .1 .1 .1 .0) ∷ left ((MutSlice (named 11) (κs .1 .1 .1 .1 .1 .1 .1 .1 .1 .1 .1 .0) u32) .exit yes) order (ws .1 .1 .1 .1 .1 .1 .1 .1 .1 .1 .1 .1 .1 .1 .1 .0) ∷ left ((MutSlice (named 12) (κs .1 .1 .1 .1 .1 .1 .1 .1 .1 .1 .1 .1 .0) u32) .exit yes) first (ws .1 .1 .1 .1 .1 .1 .1 .1 .1 .1 .1 .1 .1 .1 .1 .1 .0) ∷ left ((MutSlice (named 13) (κs .1 .1 .1 .1 .1 .1 .1 .1 .1 .1 .1 .1 .1 .0) (Array f64 3)) .exit yes) sorted (ws .1 .1 .1 .1 .1 .1 .1 .1 .1 .1 .1 .1 .1 .1 .1 .1 .1 .0) ∷ left ((MutSlice (named 14) (κs .1 .1 .1 .1 .1 .1 .1 .1 .1 .1 .1 .1 .1 .1 .0) u32) .exit yes) stamp (ws .1 .1 .1 .1 .1 .1 .1 .1 .1 .1 .1 .1 .1 .1 .1 .1 .1 .1 .0) ∷ left ((MutSlice (named 15) (κs .1 .1 .1 .1 .1 .1 .1 .1 .1 .1 .1 .1 .1 .1 .1 .0) f64) .exit yes) weight (ws .1 .1 .1 .1 .1 .1 .1 .1 .1 .1 .1 .1 .1 .1 .1 .1 .1 .1 .1 .0) ∷ left ((MutSlice (named 16) (κs .1 .1 .1 .1 .1 .1 .1 .1 .1 .1 .1 .1 .1 .1 .1 .1 .0) u32) .exit yes) found (ws .1 .1 .1 .1 .1 .1 .1 .1 .1 .1 .1 .1 .1 .1 .1 .1 .1 .1 .1 .1 .0) ∷ left ((MutSlice (named 17) (κs .1 .1 .1 .1 .1 .1 .1 .1 .1 .1 .1 .1 .1 .1 .1 .1 .1 .0) u64) .exit yes) bits (ws .1 .1 .1 .1 .1 .1 .1 .1 .1 .1 .1 .1 .1 .1 .1 .1 .1 .1 .1 .1 .1 .0) ∷ [])) $ split ! $ move ! (1 ∷ []) $ fsplit ! $ move ! (1 ∷ []) $ drop ! $
         -- [the last list; what is said of the others; the tokens and the result; what the lender keeps; the locals]
-        move ! (2 ∷ []) $ split ! $ use1 W (raw (toks 𝓤 A 18 κs qs) ⊛ ‵ (flft (α ∷ []) fullShare)) (out-at 𝓤 H A W (tokens 10 (κs .0, (κs .1 .0, (κs .1 .1 .0, (κs .1 .1 .1 .0, (κs .1 .1 .1 .1 .0, (κs .1 .1 .1 .1 .1 .0, (κs .1 .1 .1 .1 .1 .1 .0, (κs .1 .1 .1 .1 .1 .1 .1 .0, (κs .1 .1 .1 .1 .1 .1 .1 .1 .0, (κs .1 .1 .1 .1 .1 .1 .1 .1 .1 .0, tt)))))))))) (qs .0, (qs .1 .0, (qs .1 .1 .0, (qs .1 .1 .1 .0, (qs .1 .1 .1 .1 .0, (qs .1 .1 .1 .1 .1 .0, (qs .1 .1 .1 .1 .1 .1 .0, (qs .1 .1 .1 .1 .1 .1 .1 .0, (qs .1 .1 .1 .1 .1 .1 .1 .1 .0, (qs .1 .1 .1 .1 .1 .1 .1 .1 .1 .0, tt))))))))))) (flft (α ∷ []) fullShare) (tokens 8 (κs .1 .1 .1 .1 .1 .1 .1 .1 .1 .1 .0, (κs .1 .1 .1 .1 .1 .1 .1 .1 .1 .1 .1 .0, (κs .1 .1 .1 .1 .1 .1 .1 .1 .1 .1 .1 .1 .0, (κs .1 .1 .1 .1 .1 .1 .1 .1 .1 .1 .1 .1 .1 .0, (κs .1 .1 .1 .1 .1 .1 .1 .1 .1 .1 .1 .1 .1 .1 .0, (κs .1 .1 .1 .1 .1 .1 .1 .1 .1 .1 .1 .1 .1 .1 .1 .0, (κs .1 .1 .1 .1 .1 .1 .1 .1 .1 .1 .1 .1 .1 .1 .1 .1 .0, (κs .1 .1 .1 .1 .1 .1 .1 .1 .1 .1 .1 .1 .1 .1 .1 .1 .1 .0, tt)))))))) (qs .1 .1 .1 .1 .1 .1 .1 .1 .1 .1 .0, (qs .1 .1 .1 .1 .1 .1 .1 .1 .1 .1 .1 .0, (qs .1 .1 .1 .1 .1 .1 .1 .1 .1 .1 .1 .1 .0, (qs .1 .1 .1 .1 .1 .1 .1 .1 .1 .1 .1 .1 .1 .0, (qs .1 .1 .1 .1 .1 .1 .1 .1 .1 .1 .1 .1 .1 .1 .0, (qs .1 .1 .1 .1 .1 .1 .1 .1 .1 .1 .1 .1 .1 .1 .1 .0, (qs .1 .1 .1 .1 .1 .1 .1 .1 .1 .1 .1 .1 .1 .1 .1 .1 .0, (qs .1 .1 .1 .1 .1 .1 .1 .1 .1 .1 .1 .1 .1 .1 .1 .1 .1 .0, tt)))))))))) $ split ! $ move ! (2 ∷ []) $ facts ! T-Told.the-row (Is T-Told.the-row) (shows 𝓤 H A T-Told.the-row) r (w ∷ []) (λ is-r.
+        move ! (2 ∷ []) $ split ! $ use1 W (raw (toks 𝓤 A 18 κs qs) ⊛ ‵ (flft (α ∷ []) fullShare)) (out-at 𝓤 H A W (tokens 10 (κs .0, (κs .1 .0, (κs .1 .1 .0, (κs .1 .1 .1 .0, (κs .1 .1 .1 .1 .0, (κs .1 .1 .1 .1 .1 .0, (κs .1 .1 .1 .1 .1 .1 .0, (κs .1 .1 .1 .1 .1 .1 .1 .0, (κs .1 .1 .1 .1 .1 .1 .1 .1 .0, (κs .1 .1 .1 .1 .1 .1 .1 .1 .1 .0, tt)))))))))) (qs .0, (qs .1 .0, (qs .1 .1 .0, (qs .1 .1 .1 .0, (qs .1 .1 .1 .1 .0, (qs .1 .1 .1 .1 .1 .0, (qs .1 .1 .1 .1 .1 .1 .0, (qs .1 .1 .1 .1 .1 .1 .1 .0, (qs .1 .1 .1 .1 .1 .1 .1 .1 .0, (qs .1 .1 .1 .1 .1 .1 .1 .1 .1 .0, tt))))))))))) (flft (α ∷ []) fullShare) (tokens 8 (κs .1 .1 .1 .1 .1 .1 .1 .1 .1 .1 .0, (κs .1 .1 .1 .1 .1 .1 .1 .1 .1 .1 .1 .0, (κs .1 .1 .1 .1 .1 .1 .1 .1 .1 .1 .1 .1 .0, (κs .1 .1 .1 .1 .1 .1 .1 .1 .1 .1 .1 .1 .1 .0, (κs .1 .1 .1 .1 .1 .1 .1 .1 .1 .1 .1 .1 .1 .1 .0, (κs .1 .1 .1 .1 .1 .1 .1 .1 .1 .1 .1 .1 .1 .1 .1 .0, (κs .1 .1 .1 .1 .1 .1 .1 .1 .1 .1 .1 .1 .1 .1 .1 .1 .0, (κs .1 .1 .1 .1 .1 .1 .1 .1 .1 .1 .1 .1 .1 .1 .1 .1 .1 .0, tt)))))))) (qs .1 .1 .1 .1 .1 .1 .1 .1 .1 .1 .0, (qs .1 .1 .1 .1 .1 .1 .1 .1 .1 .1 .1 .0, (qs .1 .1 .1 .1 .1 .1 .1 .1 .1 .1 .1 .1 .0, (qs .1 .1 .1 .1 .1 .1 .1 .1 .1 .1 .1 .1 .1 .0, (qs .1 .1 .1 .1 .1 .1 .1 .1 .1 .1 .1 .1 .1 .1 .0, (qs .1 .1 .1 .1 .1 .1 .1 .1 .1 .1 .1 .1 .1 .1 .1 .0, (qs .1 .1 .1 .1 .1 .1 .1 .1 .1 .1 .1 .1 .1 .1 .1 .1 .0, (qs .1 .1 .1 .1 .1 .1 .1 .1 .1 .1 .1 .1 .1 .1 .1 .1 .1 .0, tt)))))))))) $ split ! $ move ! (2 ∷ []) $ facts ! T-Returned.the-row (Is T-Returned.the-row) (shows 𝓤 H A T-Returned.the-row) r (w ∷ []) (λ is-r.
         -- [the tokens; the token; the last list; what is said; what the lender keeps; the locals]
-        land ! (from ! (stop !)) (init ! 63 refl (LL.lawful T-Told.the-type T′-Told.the-laws 𝓤 H A W .typed r _ is-r .0)) $
+        land ! (from ! (stop !)) (init ! 63 refl (LL.lawful T-Returned.the-type T′-Returned.the-laws 𝓤 H A W .typed r _ is-r .0)) $
         move ! (1 ∷ []) $ lft-end ! tt $ move ! (0 ∷ 4 ∷ 2 ∷ []) $
         use3 W (later (some (λ (v : Val). ‵ (fat fullShare (tyArray Ro′.mir 64) l23 0 v) ⊛ ‵ (Arr .own (ws .1 .1 .1 .1 .1 .1 .1 .1 .1 .1 .1 .1 .1 .0) (v ∷ []))))) (local-back 𝓤 H A W Ro.the-row tt makes (α ∷ []) 64 l23 γ (ws .1 .1 .1 .1 .1 .1 .1 .1 .1 .1 .1 .1 .1 .0)) $ await ! tt $ pick ! (λ v. split ! $
         move ! (1 ∷ []) $ facts ! Arr (Is Arr) (shows 𝓤 H A Arr) (ws .1 .1 .1 .1 .1 .1 .1 .1 .1 .1 .1 .1 .1 .0) (v ∷ []) (λ is-v.

@@ -4,8 +4,8 @@ use mathlib.Core.Path.{ap, _∙_}
 use mathlib.Core.Bool.{false}
 use lib.ListN.{length}
 use Rattle.run_plain.specs.declared.State.{State}
-use Rattle.run_plain.specs.Calls.{Asked, openOf}
-use Rattle.run_answer.specs.Answers.{listsOf, lengthsOf}
+use Rattle.run_plain.specs.Calls.{listsOf, Asked, openOf}
+use Rattle.run_answer.specs.Answers.{lengthsOf}
 use Rattle.run_open_checks.specs.Opens.{lengthsOf as openLengths}
 use Rattle.shape_job.specs.Job.{answersFrom, jobOf}
 use Rattle.shape_job.proofs.run.Statement.{statement}

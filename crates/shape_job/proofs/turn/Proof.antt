@@ -7,8 +7,8 @@ use lib.ListN.{length}
 use lib.Ieee.{Float}
 use Rattle.lists.proofs.Laws.{length-tabulate}
 use Rattle.run_plain.specs.declared.Said.the-variants.{Gave}
-use Rattle.run_plain.specs.Calls.{answerOf}
-use Rattle.run_answer.specs.Answers.{listsOf, lengthsOf}
+use Rattle.run_plain.specs.Calls.{listsOf, answerOf}
+use Rattle.run_answer.specs.Answers.{lengthsOf}
 use Rattle.shape_solver.specs.Energies.{energiesOf}
 use Rattle.shape_job.proofs.turn.Statement.{statement}
 use Rattle.shape_job.proofs.turn.Tie as tie
@@ -51,7 +51,7 @@ returns : tie.Need-returns
 returns c =
     let a = c .before .before .before .before .before .before .before .before .before .before .before .before .before .before .before .before .before .before .before .before .before .before .before .before .before .before .before .before .before .before .before .before .before .before .before .before .before .before .before .before .before .before .before .before .before .before .before .before .args in
     c .before .before .before .before .before .before .before .before .before .before .before .before .before .before .before .before .answer .ensures .same
-    ∙ ap (λ (u : List Float). answerOf (a .t .told .state) (record { said = Gave; energies = u; flag = false; elapsed = 0; allowed = 1 })
+    ∙ ap (λ (u : List Float). answerOf (a .t .returned .state) (record { heard = record { said = Gave; flag = false; elapsed = 0; allowed = 1 }; energies = u })
     (lengthsOf (record { free = a .free .now; slope = a .slope .now; spare = a .spare .now; dc = a .dc .now; dv = a .dv .now }))
     (listsOf (record { volumes = a .volumes .now; passive = a .passive .now; starts = a .starts .now; near = a .near .now; coef = a .coef .now; design = a .design .now; density = a .density .now; last = a .last .now }) (a .t .history)))
     (c .before .before .before .before .before .before .before .before .before .before .before .before .before .before .before .before .before .before .before .before .before .before .before .before .before .before .before .before .before .before .solve .ensures)

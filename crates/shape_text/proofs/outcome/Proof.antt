@@ -44,7 +44,7 @@ same-length c = search needs
 returns : tie.Need-returns
 returns c =
     let a = c .before .before .before .before .before .before .before .before .before .before .before .before .args in
-    retext (ap (λ (q : Reply). textOf (outcomeBy q (a .t .told .state) (a .t .history) (a .last .now))) (sym (c .before .before .before .before .before .reply .given .1))) (c .before .before .refused .ensures)
+    retext (ap (λ (q : Reply). textOf (outcomeBy q (a .t .returned .state) (a .t .history) (a .last .now))) (sym (c .before .before .before .before .before .reply .given .1))) (c .before .before .refused .ensures)
 
 same-length-2 : tie.Need-same-length-2
 same-length-2 c = search needs
@@ -52,7 +52,7 @@ same-length-2 c = search needs
 returns-2 : tie.Need-returns-2
 returns-2 c =
     let a = c .before .before .before .before .before .before .before .before .before .before .before .args in
-    retext (ap (λ (q : Reply). textOf (outcomeBy q (a .t .told .state) (a .t .history) (a .last .now))) (sym (c .before .before .before .before .enum-told .given .1))) (c .before .before .refused2 .ensures)
+    retext (ap (λ (q : Reply). textOf (outcomeBy q (a .t .returned .state) (a .t .history) (a .last .now))) (sym (c .before .before .before .before .enum-told .given .1))) (c .before .before .refused2 .ensures)
 
 same-length-3 : tie.Need-same-length-3
 same-length-3 c = search needs
@@ -60,7 +60,7 @@ same-length-3 c = search needs
 returns-3 : tie.Need-returns-3
 returns-3 c =
     let a = c .before .before .before .before .before .before .before .before .before .before .before .args in
-    retext (ap (λ (q : Reply). textOf (outcomeBy q (a .t .told .state) (a .t .history) (a .last .now))) (sym (c .before .before .before .before .enum-told2 .given .1))) (c .before .before .refused3 .ensures)
+    retext (ap (λ (q : Reply). textOf (outcomeBy q (a .t .returned .state) (a .t .history) (a .last .now))) (sym (c .before .before .before .before .enum-told2 .given .1))) (c .before .before .refused3 .ensures)
 
 same-length-4 : tie.Need-same-length-4
 same-length-4 c = search needs
@@ -68,7 +68,7 @@ same-length-4 c = search needs
 returns-4 : tie.Need-returns-4
 returns-4 c =
     let a = c .before .before .before .before .before .before .before .before .before .before .before .before .before .args in
-    retext (ap (λ (l : List Float). textOf (ran (a .t .told .state .«solid_compliance») (take (a .t .told .state .rounds) (a .t .history)) (c .before .before .before .before .before .before .reply2 .given .0 .0) l)) (c .before .before .before .front .ensures) ∙ ap (λ (q : Reply). textOf (outcomeBy q (a .t .told .state) (a .t .history) (a .last .now))) (sym (c .before .before .before .before .before .before .reply2 .given .1))) (c .before .before .ran .ensures)
+    retext (ap (λ (l : List Float). textOf (ran (a .t .returned .state .compliances .solid) (take (a .t .returned .state .progress .rounds) (a .t .history)) (c .before .before .before .before .before .before .reply2 .given .0 .0) l)) (c .before .before .before .front .ensures) ∙ ap (λ (q : Reply). textOf (outcomeBy q (a .t .returned .state) (a .t .history) (a .last .now))) (sym (c .before .before .before .before .before .before .reply2 .given .1))) (c .before .before .ran .ensures)
 
 pub outcome-spec : {M : Type 1} → statement M
 outcome-spec =

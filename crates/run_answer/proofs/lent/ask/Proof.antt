@@ -58,8 +58,8 @@ same-length-2 c = search needs
 returns : tie.Need-returns
 returns c = let a = c .before .before .before .before .before .before .before .before .before .before .before .before .before .before .before .before .before .before .before .args in
     let p = c .before .before .before .before .before .before .before .before .before .before .before .before .before .before .before .before .before .before .before .pre in
-    let n = a .state .elements in
-    let e = c .before .before .before .before .ask .ensures ∙ ap (λ (s : List ℕ). seenDensity (choose (a .state .sharpen) (At (sharpness (steepAt (a .stage)))) Off) s (take (a .state .entries) (now (a .near))) (take (a .state .entries) (now (a .coef))) (take n (now (a .passive))) (take n (now (a .design)))) (take-one n (now (a .starts))) in
+    let n = a .state .setting .elements in
+    let e = c .before .before .before .before .ask .ensures ∙ ap (λ (s : List ℕ). seenDensity (choose (a .state .setting .sharpen) (At (sharpness (steepAt (a .stage)))) Off) s (take (a .state .setting .entries) (now (a .near))) (take (a .state .setting .entries) (now (a .coef))) (take n (now (a .passive))) (take n (now (a .design)))) (take-one n (now (a .starts))) in
     (laid n _ _ (now (a .density)) e (c .before .before .before .before .ask .kept .1 .1 .1 .1 .1 .1 .1 .0 ∙ sym (front n (now (a .density)) (p .density))), scratched n (c .before .before .before .before .ask .last .1 .1 .1 .1 .1 .1 .1 .1 .0) (now (a .spare)) (c .before .before .before .before .ask .kept .1 .1 .1 .1 .1 .1 .1 .1 .0 ∙ sym (front n (now (a .spare)) (p .spare))) (p .spare))
 
 pub ask-spec : {M : Type 1} → statement M

@@ -89,33 +89,33 @@ solve-requires c κs = let p = c .before .before .before .before .before .before
     ((p .energies ∙ front _ _ (p .passive), sym (front _ _ (p .volumes)) ∙ front _ _ (p .passive), sym (front _ _ (p .density)) ∙ front _ _ (p .passive), sym (front _ _ (p .design)) ∙ front _ _ (p .passive)), (sym (front _ _ (p .free)) ∙ front _ _ (p .passive), sym (front _ _ (p .slope)) ∙ front _ _ (p .passive), sym (front _ _ (p .spare)) ∙ front _ _ (p .passive), sym (front _ _ (p .dc)) ∙ front _ _ (p .passive), sym (front _ _ (p .dv)) ∙ front _ _ (p .passive)))
 
 same-length : tie.Need-same-length
-same-length c = let a = c .before .before .before .before .before .before .before .before .before .before .before .before .before .before .before .before .before .before .before .before .before .before .before .before .before .before .before .before .before .before .before .before .before .before .before .before .before .before .before .before .before .before .before .before .before .args in let p = c .before .before .before .before .before .before .before .before .before .before .before .before .before .before .before .before .before .before .before .before .before .before .before .before .before .before .before .before .before .before .before .before .before .before .before .before .before .before .before .before .before .before .before .before .before .pre .0 in let n = a .state .elements in scratched n (c .before .before .before .before .before .before .before .before .before .before .before .before .solve .last .1 .1 .1 .1 .1 .1 .1 .1 .1 .1 .1 .0) (now (a .design)) (c .before .before .before .before .before .before .before .before .before .before .before .before .solve .kept .1 .1 .1 .1 .1 .1 .1 .1 .1 .1 .1 .0 ∙ sym (front n (now (a .design)) (p .design))) (p .design) .long
+same-length c = let a = c .before .before .before .before .before .before .before .before .before .before .before .before .before .before .before .before .before .before .before .before .before .before .before .before .before .before .before .before .before .before .before .before .before .before .before .before .before .before .before .before .before .before .before .before .before .args in let p = c .before .before .before .before .before .before .before .before .before .before .before .before .before .before .before .before .before .before .before .before .before .before .before .before .before .before .before .before .before .before .before .before .before .before .before .before .before .before .before .before .before .before .before .before .before .pre .0 in let n = a .state .setting .elements in scratched n (c .before .before .before .before .before .before .before .before .before .before .before .before .solve .last .1 .1 .1 .1 .1 .1 .1 .1 .1 .1 .1 .0) (now (a .design)) (c .before .before .before .before .before .before .before .before .before .before .before .before .solve .kept .1 .1 .1 .1 .1 .1 .1 .1 .1 .1 .1 .0 ∙ sym (front n (now (a .design)) (p .design))) (p .design) .long
 
 same-length-2 : tie.Need-same-length-2
-same-length-2 c = let a = c .before .before .before .before .before .before .before .before .before .before .before .before .before .before .before .before .before .before .before .before .before .before .before .before .before .before .before .before .before .before .before .before .before .before .before .before .before .before .before .before .before .before .before .before .before .args in let p = c .before .before .before .before .before .before .before .before .before .before .before .before .before .before .before .before .before .before .before .before .before .before .before .before .before .before .before .before .before .before .before .before .before .before .before .before .before .before .before .before .before .before .before .before .before .pre .0 in let n = a .state .elements in scratched n (c .before .before .before .before .before .before .before .before .before .before .before .before .before .before .before .before .before .before .before .before .before .before .before .before .before .before .before .before .copy .last .1 .0) (now (a .last)) (c .before .before .before .before .before .before .before .before .before .before .before .before .before .before .before .before .before .before .before .before .before .before .before .before .before .before .before .before .copy .kept .1 .0 ∙ sym (front n (now (a .last)) (p .last))) (p .last) .long
+same-length-2 c = let a = c .before .before .before .before .before .before .before .before .before .before .before .before .before .before .before .before .before .before .before .before .before .before .before .before .before .before .before .before .before .before .before .before .before .before .before .before .before .before .before .before .before .before .before .before .before .args in let p = c .before .before .before .before .before .before .before .before .before .before .before .before .before .before .before .before .before .before .before .before .before .before .before .before .before .before .before .before .before .before .before .before .before .before .before .before .before .before .before .before .before .before .before .before .before .pre .0 in let n = a .state .setting .elements in scratched n (c .before .before .before .before .before .before .before .before .before .before .before .before .before .before .before .before .before .before .before .before .before .before .before .before .before .before .before .before .copy .last .1 .0) (now (a .last)) (c .before .before .before .before .before .before .before .before .before .before .before .before .before .before .before .before .before .before .before .before .before .before .before .before .before .before .before .before .copy .kept .1 .0 ∙ sym (front n (now (a .last)) (p .last))) (p .last) .long
 
 same-length-3 : tie.Need-same-length-3
-same-length-3 c = let a = c .before .before .before .before .before .before .before .before .before .before .before .before .before .before .before .before .before .before .before .before .before .before .before .before .before .before .before .before .before .before .before .before .before .before .before .before .before .before .before .before .before .before .before .before .before .args in let p = c .before .before .before .before .before .before .before .before .before .before .before .before .before .before .before .before .before .before .before .before .before .before .before .before .before .before .before .before .before .before .before .before .before .before .before .before .before .before .before .before .before .before .before .before .before .pre .0 in let n = a .state .elements in scratched n (c .before .before .before .before .before .before .before .before .before .before .before .before .solve .last .1 .1 .1 .1 .1 .1 .1 .1 .1 .1 .1 .1 .0) (now (a .free)) (c .before .before .before .before .before .before .before .before .before .before .before .before .solve .kept .1 .1 .1 .1 .1 .1 .1 .1 .1 .1 .1 .1 .0 ∙ sym (front n (now (a .free)) (p .free))) (p .free) .long
+same-length-3 c = let a = c .before .before .before .before .before .before .before .before .before .before .before .before .before .before .before .before .before .before .before .before .before .before .before .before .before .before .before .before .before .before .before .before .before .before .before .before .before .before .before .before .before .before .before .before .before .args in let p = c .before .before .before .before .before .before .before .before .before .before .before .before .before .before .before .before .before .before .before .before .before .before .before .before .before .before .before .before .before .before .before .before .before .before .before .before .before .before .before .before .before .before .before .before .before .pre .0 in let n = a .state .setting .elements in scratched n (c .before .before .before .before .before .before .before .before .before .before .before .before .solve .last .1 .1 .1 .1 .1 .1 .1 .1 .1 .1 .1 .1 .0) (now (a .free)) (c .before .before .before .before .before .before .before .before .before .before .before .before .solve .kept .1 .1 .1 .1 .1 .1 .1 .1 .1 .1 .1 .1 .0 ∙ sym (front n (now (a .free)) (p .free))) (p .free) .long
 
 same-length-4 : tie.Need-same-length-4
-same-length-4 c = let a = c .before .before .before .before .before .before .before .before .before .before .before .before .before .before .before .before .before .before .before .before .before .before .before .before .before .before .before .before .before .before .before .before .before .before .before .before .before .before .before .before .before .before .before .before .before .args in let p = c .before .before .before .before .before .before .before .before .before .before .before .before .before .before .before .before .before .before .before .before .before .before .before .before .before .before .before .before .before .before .before .before .before .before .before .before .before .before .before .before .before .before .before .before .before .pre .0 in let n = a .state .elements in scratched n (c .before .before .before .before .before .before .before .before .before .before .before .before .solve .last .1 .1 .1 .1 .1 .1 .1 .1 .1 .1 .1 .1 .1 .0) (now (a .slope)) (c .before .before .before .before .before .before .before .before .before .before .before .before .solve .kept .1 .1 .1 .1 .1 .1 .1 .1 .1 .1 .1 .1 .1 .0 ∙ sym (front n (now (a .slope)) (p .slope))) (p .slope) .long
+same-length-4 c = let a = c .before .before .before .before .before .before .before .before .before .before .before .before .before .before .before .before .before .before .before .before .before .before .before .before .before .before .before .before .before .before .before .before .before .before .before .before .before .before .before .before .before .before .before .before .before .args in let p = c .before .before .before .before .before .before .before .before .before .before .before .before .before .before .before .before .before .before .before .before .before .before .before .before .before .before .before .before .before .before .before .before .before .before .before .before .before .before .before .before .before .before .before .before .before .pre .0 in let n = a .state .setting .elements in scratched n (c .before .before .before .before .before .before .before .before .before .before .before .before .solve .last .1 .1 .1 .1 .1 .1 .1 .1 .1 .1 .1 .1 .1 .0) (now (a .slope)) (c .before .before .before .before .before .before .before .before .before .before .before .before .solve .kept .1 .1 .1 .1 .1 .1 .1 .1 .1 .1 .1 .1 .1 .0 ∙ sym (front n (now (a .slope)) (p .slope))) (p .slope) .long
 
 same-length-5 : tie.Need-same-length-5
-same-length-5 c = let a = c .before .before .before .before .before .before .before .before .before .before .before .before .before .before .before .before .before .before .before .before .before .before .before .before .before .before .before .before .before .before .before .before .before .before .before .before .before .before .before .before .before .before .before .before .before .args in let p = c .before .before .before .before .before .before .before .before .before .before .before .before .before .before .before .before .before .before .before .before .before .before .before .before .before .before .before .before .before .before .before .before .before .before .before .before .before .before .before .before .before .before .before .before .before .pre .0 in let n = a .state .elements in scratched n (c .before .before .before .before .before .before .before .before .before .before .before .before .solve .last .1 .1 .1 .1 .1 .1 .1 .1 .1 .1 .1 .1 .1 .1 .0) (now (a .spare)) (c .before .before .before .before .before .before .before .before .before .before .before .before .solve .kept .1 .1 .1 .1 .1 .1 .1 .1 .1 .1 .1 .1 .1 .1 .0 ∙ sym (front n (now (a .spare)) (p .spare))) (p .spare) .long
+same-length-5 c = let a = c .before .before .before .before .before .before .before .before .before .before .before .before .before .before .before .before .before .before .before .before .before .before .before .before .before .before .before .before .before .before .before .before .before .before .before .before .before .before .before .before .before .before .before .before .before .args in let p = c .before .before .before .before .before .before .before .before .before .before .before .before .before .before .before .before .before .before .before .before .before .before .before .before .before .before .before .before .before .before .before .before .before .before .before .before .before .before .before .before .before .before .before .before .before .pre .0 in let n = a .state .setting .elements in scratched n (c .before .before .before .before .before .before .before .before .before .before .before .before .solve .last .1 .1 .1 .1 .1 .1 .1 .1 .1 .1 .1 .1 .1 .1 .0) (now (a .spare)) (c .before .before .before .before .before .before .before .before .before .before .before .before .solve .kept .1 .1 .1 .1 .1 .1 .1 .1 .1 .1 .1 .1 .1 .1 .0 ∙ sym (front n (now (a .spare)) (p .spare))) (p .spare) .long
 
 same-length-6 : tie.Need-same-length-6
-same-length-6 c = let a = c .before .before .before .before .before .before .before .before .before .before .before .before .before .before .before .before .before .before .before .before .before .before .before .before .before .before .before .before .before .before .before .before .before .before .before .before .before .before .before .before .before .before .before .before .before .args in let p = c .before .before .before .before .before .before .before .before .before .before .before .before .before .before .before .before .before .before .before .before .before .before .before .before .before .before .before .before .before .before .before .before .before .before .before .before .before .before .before .before .before .before .before .before .before .pre .0 in let n = a .state .elements in scratched n (c .before .before .before .before .before .before .before .before .before .before .before .before .solve .last .1 .1 .1 .1 .1 .1 .1 .1 .1 .1 .1 .1 .1 .1 .1 .0) (now (a .dc)) (c .before .before .before .before .before .before .before .before .before .before .before .before .solve .kept .1 .1 .1 .1 .1 .1 .1 .1 .1 .1 .1 .1 .1 .1 .1 .0 ∙ sym (front n (now (a .dc)) (p .dc))) (p .dc) .long
+same-length-6 c = let a = c .before .before .before .before .before .before .before .before .before .before .before .before .before .before .before .before .before .before .before .before .before .before .before .before .before .before .before .before .before .before .before .before .before .before .before .before .before .before .before .before .before .before .before .before .before .args in let p = c .before .before .before .before .before .before .before .before .before .before .before .before .before .before .before .before .before .before .before .before .before .before .before .before .before .before .before .before .before .before .before .before .before .before .before .before .before .before .before .before .before .before .before .before .before .pre .0 in let n = a .state .setting .elements in scratched n (c .before .before .before .before .before .before .before .before .before .before .before .before .solve .last .1 .1 .1 .1 .1 .1 .1 .1 .1 .1 .1 .1 .1 .1 .1 .0) (now (a .dc)) (c .before .before .before .before .before .before .before .before .before .before .before .before .solve .kept .1 .1 .1 .1 .1 .1 .1 .1 .1 .1 .1 .1 .1 .1 .1 .0 ∙ sym (front n (now (a .dc)) (p .dc))) (p .dc) .long
 
 same-length-7 : tie.Need-same-length-7
-same-length-7 c = let a = c .before .before .before .before .before .before .before .before .before .before .before .before .before .before .before .before .before .before .before .before .before .before .before .before .before .before .before .before .before .before .before .before .before .before .before .before .before .before .before .before .before .before .before .before .before .args in let p = c .before .before .before .before .before .before .before .before .before .before .before .before .before .before .before .before .before .before .before .before .before .before .before .before .before .before .before .before .before .before .before .before .before .before .before .before .before .before .before .before .before .before .before .before .before .pre .0 in let n = a .state .elements in scratched n (c .before .before .before .before .before .before .before .before .before .before .before .before .solve .last .1 .1 .1 .1 .1 .1 .1 .1 .1 .1 .1 .1 .1 .1 .1 .1 .0) (now (a .dv)) (c .before .before .before .before .before .before .before .before .before .before .before .before .solve .kept .1 .1 .1 .1 .1 .1 .1 .1 .1 .1 .1 .1 .1 .1 .1 .1 .0 ∙ sym (front n (now (a .dv)) (p .dv))) (p .dv) .long
+same-length-7 c = let a = c .before .before .before .before .before .before .before .before .before .before .before .before .before .before .before .before .before .before .before .before .before .before .before .before .before .before .before .before .before .before .before .before .before .before .before .before .before .before .before .before .before .before .before .before .before .args in let p = c .before .before .before .before .before .before .before .before .before .before .before .before .before .before .before .before .before .before .before .before .before .before .before .before .before .before .before .before .before .before .before .before .before .before .before .before .before .before .before .before .before .before .before .before .before .pre .0 in let n = a .state .setting .elements in scratched n (c .before .before .before .before .before .before .before .before .before .before .before .before .solve .last .1 .1 .1 .1 .1 .1 .1 .1 .1 .1 .1 .1 .1 .1 .1 .1 .0) (now (a .dv)) (c .before .before .before .before .before .before .before .before .before .before .before .before .solve .kept .1 .1 .1 .1 .1 .1 .1 .1 .1 .1 .1 .1 .1 .1 .1 .1 .0 ∙ sym (front n (now (a .dv)) (p .dv))) (p .dv) .long
 
 returns : tie.Need-returns
 returns c = let a = c .before .before .before .before .before .before .before .before .before .before .before .before .before .before .before .before .before .before .before .before .before .before .before .before .before .before .before .before .before .before .before .before .before .before .before .before .before .before .before .before .before .before .before .before .before .args in
     let p = c .before .before .before .before .before .before .before .before .before .before .before .before .before .before .before .before .before .before .before .before .before .before .before .before .before .before .before .before .before .before .before .before .before .before .before .before .before .before .before .before .before .before .before .before .before .pre .0 in
-    let n = a .state .elements in
+    let n = a .state .setting .elements in
     record {
-      entry = c .before .before .before .before .before .before .before .before .before .before .before .before .solve .ensures .0 ∙ (λ i. recordAt (caseAt (take n (now (a .volumes))) (take n (now (a .passive))) (take-one n (now (a .starts)) i) (take (a .state .entries) (now (a .near))) (take (a .state .entries) (now (a .coef))) (a .state .fraction) (a .state .sharpen)) (steepAt (a .state .stage)) (take n (now (a .design))) (take n (now (a .density))) (now (a .energies)) (add-one (a .state .rounds) i));
-      design-is = laid n (c .before .before .before .before .before .before .before .before .before .before .before .before .solve .last .1 .1 .1 .1 .1 .1 .1 .1 .1 .1 .1 .0) _ (now (a .design)) (c .before .before .before .before .before .before .before .before .before .before .before .before .solve .ensures .1 ∙ (λ i. updateAt (caseAt (take n (now (a .volumes))) (take n (now (a .passive))) (take-one n (now (a .starts)) i) (take (a .state .entries) (now (a .near))) (take (a .state .entries) (now (a .coef))) (a .state .fraction) (a .state .sharpen)) (steepAt (a .state .stage)) (take n (now (a .design))) (take n (now (a .density))) (now (a .energies)) .design)) (c .before .before .before .before .before .before .before .before .before .before .before .before .solve .kept .1 .1 .1 .1 .1 .1 .1 .1 .1 .1 .1 .0 ∙ sym (front n (now (a .design)) (p .design)));
+      entry = c .before .before .before .before .before .before .before .before .before .before .before .before .solve .ensures .0 ∙ (λ i. recordAt (caseAt (take n (now (a .volumes))) (take n (now (a .passive))) (take-one n (now (a .starts)) i) (take (a .state .setting .entries) (now (a .near))) (take (a .state .setting .entries) (now (a .coef))) (a .state .setting .fraction) (a .state .setting .sharpen)) (steepAt (a .state .progress .stage)) (take n (now (a .design))) (take n (now (a .density))) (now (a .energies)) (add-one (a .state .progress .rounds) i));
+      design-is = laid n (c .before .before .before .before .before .before .before .before .before .before .before .before .solve .last .1 .1 .1 .1 .1 .1 .1 .1 .1 .1 .1 .0) _ (now (a .design)) (c .before .before .before .before .before .before .before .before .before .before .before .before .solve .ensures .1 ∙ (λ i. updateAt (caseAt (take n (now (a .volumes))) (take n (now (a .passive))) (take-one n (now (a .starts)) i) (take (a .state .setting .entries) (now (a .near))) (take (a .state .setting .entries) (now (a .coef))) (a .state .setting .fraction) (a .state .setting .sharpen)) (steepAt (a .state .progress .stage)) (take n (now (a .design))) (take n (now (a .density))) (now (a .energies)) .design)) (c .before .before .before .before .before .before .before .before .before .before .before .before .solve .kept .1 .1 .1 .1 .1 .1 .1 .1 .1 .1 .1 .0 ∙ sym (front n (now (a .design)) (p .design)));
       last-is = laid n (c .before .before .before .before .before .before .before .before .before .before .before .before .before .before .before .before .before .before .before .before .before .before .before .before .before .before .before .before .copy .last .1 .0) (take n (now (a .density))) (now (a .last)) (c .before .before .before .before .before .before .before .before .before .before .before .before .before .before .before .before .before .before .before .before .before .before .before .before .before .before .before .before .copy .ensures) (c .before .before .before .before .before .before .before .before .before .before .before .before .before .before .before .before .before .before .before .before .before .before .before .before .before .before .before .before .copy .kept .1 .0 ∙ sym (front n (now (a .last)) (p .last)));
       work = record { free = scratched n (c .before .before .before .before .before .before .before .before .before .before .before .before .solve .last .1 .1 .1 .1 .1 .1 .1 .1 .1 .1 .1 .1 .0) (now (a .free)) (c .before .before .before .before .before .before .before .before .before .before .before .before .solve .kept .1 .1 .1 .1 .1 .1 .1 .1 .1 .1 .1 .1 .0 ∙ sym (front n (now (a .free)) (p .free))) (p .free); slope = scratched n (c .before .before .before .before .before .before .before .before .before .before .before .before .solve .last .1 .1 .1 .1 .1 .1 .1 .1 .1 .1 .1 .1 .1 .0) (now (a .slope)) (c .before .before .before .before .before .before .before .before .before .before .before .before .solve .kept .1 .1 .1 .1 .1 .1 .1 .1 .1 .1 .1 .1 .1 .0 ∙ sym (front n (now (a .slope)) (p .slope))) (p .slope); spare = scratched n (c .before .before .before .before .before .before .before .before .before .before .before .before .solve .last .1 .1 .1 .1 .1 .1 .1 .1 .1 .1 .1 .1 .1 .1 .0) (now (a .spare)) (c .before .before .before .before .before .before .before .before .before .before .before .before .solve .kept .1 .1 .1 .1 .1 .1 .1 .1 .1 .1 .1 .1 .1 .1 .0 ∙ sym (front n (now (a .spare)) (p .spare))) (p .spare); dc = scratched n (c .before .before .before .before .before .before .before .before .before .before .before .before .solve .last .1 .1 .1 .1 .1 .1 .1 .1 .1 .1 .1 .1 .1 .1 .1 .0) (now (a .dc)) (c .before .before .before .before .before .before .before .before .before .before .before .before .solve .kept .1 .1 .1 .1 .1 .1 .1 .1 .1 .1 .1 .1 .1 .1 .1 .0 ∙ sym (front n (now (a .dc)) (p .dc))) (p .dc); dv = scratched n (c .before .before .before .before .before .before .before .before .before .before .before .before .solve .last .1 .1 .1 .1 .1 .1 .1 .1 .1 .1 .1 .1 .1 .1 .1 .1 .0) (now (a .dv)) (c .before .before .before .before .before .before .before .before .before .before .before .before .solve .kept .1 .1 .1 .1 .1 .1 .1 .1 .1 .1 .1 .1 .1 .1 .1 .1 .0 ∙ sym (front n (now (a .dv)) (p .dv))) (p .dv) };
     }

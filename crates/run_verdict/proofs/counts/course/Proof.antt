@@ -33,15 +33,15 @@ returns-3 c = course-is _ _ _ _ _ _ (c .before .before .before .before .before .
 
 returns-4 : tie.Need-returns-4
 unfolding firstStop choose
-returns-4 c = course-is _ _ _ _ _ _ (c .before .before .before .before .before .before .before .before .sharpest .ensures) (c .before .before .before .before .before .before .before .small .ensures) (c .before .before .before .before .before .before .steady-after .ensures) _ (rw (c .before .before .before .before .before .if1 .left, c .before .before .before .before .if2 .left, lt-leb _ _ (c .before .if3 .left), le-leb _ _ (c .if4 .taken)))
+returns-4 c = course-is _ _ _ _ _ _ (c .before .before .before .before .before .before .before .before .before .sharpest .ensures) (c .before .before .before .before .before .before .before .before .small .ensures) (c .before .before .before .before .before .before .before .steady-after .ensures) _ (rw (c .before .before .before .before .before .before .if1 .left, c .before .before .before .before .before .if2 .left, lt-leb _ _ (c .before .before .if3 .left), le-leb _ _ (c .if4 .taken)))
 
 returns-5 : tie.Need-returns-5
 unfolding firstStop choose
-returns-5 c = course-is _ _ _ _ _ _ (c .before .before .before .before .before .before .before .before .before .sharpest .ensures) (c .before .before .before .before .before .before .before .before .small .ensures) (c .before .before .before .before .before .before .before .steady-after .ensures) _ (rw (c .before .before .before .before .before .before .if1 .left, c .before .before .before .before .before .if2 .left, lt-leb _ _ (c .before .before .if3 .left), lt-leb _ _ (c .before .if4 .left), c .if5 .taken))
+returns-5 c = course-is _ _ _ _ _ _ (c .before .before .before .before .before .before .before .before .before .before .sharpest .ensures) (c .before .before .before .before .before .before .before .before .before .small .ensures) (c .before .before .before .before .before .before .before .before .steady-after .ensures) _ (rw (c .before .before .before .before .before .before .before .if1 .left, c .before .before .before .before .before .before .if2 .left, lt-leb _ _ (c .before .before .before .if3 .left), lt-leb _ _ (c .before .if4 .left), c .if5 .taken))
 
 returns-6 : tie.Need-returns-6
 unfolding firstStop choose
-returns-6 c = course-is _ _ _ _ _ _ (c .before .before .before .before .before .before .before .before .before .sharpest .ensures) (c .before .before .before .before .before .before .before .before .small .ensures) (c .before .before .before .before .before .before .before .steady-after .ensures) _ (rw (c .before .before .before .before .before .before .if1 .left, c .before .before .before .before .before .if2 .left, lt-leb _ _ (c .before .before .if3 .left), lt-leb _ _ (c .before .if4 .left), c .if5 .left))
+returns-6 c = course-is _ _ _ _ _ _ (c .before .before .before .before .before .before .before .before .before .before .sharpest .ensures) (c .before .before .before .before .before .before .before .before .before .small .ensures) (c .before .before .before .before .before .before .before .before .steady-after .ensures) _ (rw (c .before .before .before .before .before .before .before .if1 .left, c .before .before .before .before .before .before .if2 .left, lt-leb _ _ (c .before .before .before .if3 .left), lt-leb _ _ (c .before .if4 .left), c .if5 .left))
 
 pub course-spec : {M : Type 1} → statement M
 course-spec =

@@ -34,11 +34,11 @@ either-requires-3 c κs = search needs
 either-requires-4 : tie.Need-either-requires-4
 either-requires-4 c κs = search needs
 
-add-t9 : tie.Need-add-t9
-add-t9 c = search needs
+add-t10 : tie.Need-add-t10
+add-t10 c = search needs
 
 returns : tie.Need-returns
-returns c = onward-is _ _ _ _ _ _ _ _ _ (c .before .before .before .before .before .before .before .before .before .before .sharpest .ensures) (c .before .before .before .before .before .before .before .before .before .small .ensures) (c .before .before .before .before .before .before .before .before .steady-after .ensures) (c .before .before .before .before .before .either .ensures) (c .before .before .before .before .either2 .ensures) (c .before .before .either3 .ensures) (c .before .either4 .ensures)
+returns c = onward-is _ _ _ _ _ _ _ _ _ (c .before .before .before .before .before .before .before .before .before .before .before .sharpest .ensures) (c .before .before .before .before .before .before .before .before .before .before .small .ensures) (c .before .before .before .before .before .before .before .before .before .steady-after .ensures) (c .before .before .before .before .before .before .either .ensures) (c .before .before .before .before .before .either2 .ensures) (c .before .before .before .either3 .ensures) (c .before .before .either4 .ensures)
 
 pub onward-state-spec : {M : Type 1} → statement M
 onward-state-spec =
@@ -54,5 +54,5 @@ onward-state-spec =
     add-either-2
     either-requires-3
     either-requires-4
-    add-t9
+    add-t10
     returns)

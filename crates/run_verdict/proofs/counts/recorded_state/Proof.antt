@@ -4,11 +4,11 @@ use borrow.Author.Needs.{needs}
 use Rattle.run_verdict.proofs.counts.recorded_state.Statement.{statement}
 use Rattle.run_verdict.proofs.counts.recorded_state.Tie as tie
 
-add-t4 : tie.Need-add-t4
-add-t4 c = search needs
+add-t5 : tie.Need-add-t5
+add-t5 c = search needs
 
 returns : tie.Need-returns
 returns c = rw add-one
 
 pub recorded-state-spec : {M : Type 1} → statement M
-recorded-state-spec = tie.close (tie.spec add-t4 returns)
+recorded-state-spec = tie.close (tie.spec add-t5 returns)

@@ -1,17 +1,16 @@
--- `run_open::take` meets its contract: each way out by its law. Assumes nothing.
+-- `run_open::open_core` meets its contract: each way out by its law. Assumes nothing.
 use mathlib.Core.Path.{_≡_, sym, _∙_}
 use Prim.Native.Nat.{ℕ, _≤_, _<_}
 use native.Mathlib.Omega.{arith}
 use lib.ListN.{length}
 use denote.Ref.{now}
 use borrow.Author.Tests.{not-true, not-false}
-use Rattle.run_plain.specs.Calls.{Asked}
-use Rattle.run_answer.specs.Answers.{Core}
+use Rattle.run_plain.specs.Calls.{Core, Asked}
 use Rattle.run_open_checks.specs.Opens.{Work}
 use Rattle.run_open.proofs.Laws.{out-of-turn, refused-law, rows-law, starts-fit, design-fits, density-fits, last-law}
 use borrow.Author.Needs.{needs}
-use Rattle.run_open.proofs.take.Statement.{statement}
-use Rattle.run_open.proofs.take.Tie as tie
+use Rattle.run_open.proofs.open_core.Statement.{statement}
+use Rattle.run_open.proofs.open_core.Tie as tie
 
 in-turn-requires : tie.Need-in-turn-requires
 in-turn-requires c κs = search needs
@@ -156,8 +155,8 @@ returns-4 c =
     let w₂ : Work = record { cell = m .last .1 .1 .1 .1 .1 .1 .1 .1 .0; order = m .last .1 .1 .1 .1 .1 .1 .1 .1 .1 .0; first = m .last .1 .1 .1 .1 .1 .1 .1 .1 .1 .1 .0; sorted = m .last .1 .1 .1 .1 .1 .1 .1 .1 .1 .1 .1 .0; stamp = m .last .1 .1 .1 .1 .1 .1 .1 .1 .1 .1 .1 .1 .0; weight = m .last .1 .1 .1 .1 .1 .1 .1 .1 .1 .1 .1 .1 .1 .0; found = m .last .1 .1 .1 .1 .1 .1 .1 .1 .1 .1 .1 .1 .1 .1 .0; bits = m .last .1 .1 .1 .1 .1 .1 .1 .1 .1 .1 .1 .1 .1 .1 .1 .0 } in
     last-law (a .state) g (a .room) l w (sym (c .before .before .before .before .before .before .before .before .before .before .before .before .before .before .before .before .before .before .before .before .before .before .before .before .before .before .before .before .before .before .before .before .before .before .before .before .before .before .before .before .before .before .before .before .before .before .before .before .before .before .before .before .before .before .before .before .before .before .before .before .before .before .before .before .before .before .before .in-turn .ensures) ∙ not-false _ (c .before .before .before .before .before .before .before .before .before .before .before .before .before .before .before .before .before .before .before .before .before .before .before .before .before .before .before .before .before .before .before .before .before .before .before .before .before .before .before .before .before .before .before .before .before .before .before .before .before .before .before .before .before .before .before .before .before .before .before .before .before .before .before .before .before .before .if1 .left)) (sym (c .before .before .before .before .before .before .before .before .before .before .before .before .before .before .before .before .before .before .before .before .before .before .before .before .before .before .before .before .before .before .before .before .before .before .before .before .before .before .before .before .before .before .before .before .before .before .before .before .before .before .before .before .before .before .before .before .before .before .before .before .before .before .before .before .before .refusal .ensures) ∙ zero-is (c .before .before .before .before .before .before .before .before .before .before .before .before .before .before .before .before .before .before .before .before .before .before .before .before .before .before .before .before .before .before .before .before .before .before .before .before .before .before .before .before .before .before .before .before .before .before .before .before .before .before .before .before .before .before .before .before .before .before .before .before .before .before .before .before .if2 .left)) (f .result) (f .last .1 .1 .1 .1 .0) (f .last .1 .1 .1 .1 .1 .0) (f .last .1 .1 .1 .1 .1 .1 .0) w₁ (f .ensures) (zero-is (c .before .before .before .before .before .before .before .before .before .before .before .before .before .before .before .before .before .before .before .before .before .before .before .before .before .before .before .before .before .before .before .if3 .left)) (m .result) (c .before .before .before .before .before .before .before .before .before .before .before .before .before .before .before .before .before .before .before .before .before .before .before .before .before .before .before .before .before .entries .result) (m .last .1 .1 .1 .1 .1 .1 .0) (m .last .1 .1 .1 .1 .1 .1 .1 .0) w₂ (c .before .before .before .before .before .before .before .before .before .before .before .before .before .before .before .before .before .before .before .before .before .before .before .before .before .before .before .before .before .entries .ensures) (m .ensures)
 
-pub take-spec : {M : Type 1} → statement M
-take-spec =
+pub open-core-spec : {M : Type 1} → statement M
+open-core-spec =
     tie.close
     (tie.spec
     in-turn-requires

@@ -1,8 +1,8 @@
--- `told_numbers` meets its contract, field by field. Assumes nothing.
-use Rattle.c_numbers.specs.Flat.{toldNumbers}
+-- `returned_numbers` meets its contract, field by field. Assumes nothing.
+use Rattle.c_numbers.specs.Flat.{returnedNumbers}
 use borrow.Author.Needs.{needs}
-use Rattle.c_numbers.proofs.told_numbers.Statement.{statement}
-use Rattle.c_numbers.proofs.told_numbers.Tie as tie
+use Rattle.c_numbers.proofs.returned_numbers.Statement.{statement}
+use Rattle.c_numbers.proofs.returned_numbers.Tie as tie
 
 state-numbers-requires : tie.Need-state-numbers-requires
 state-numbers-requires c κs = search needs
@@ -14,9 +14,9 @@ reply-number-requires : tie.Need-reply-number-requires
 reply-number-requires c κs = search needs
 
 returns : tie.Need-returns
-unfolding toldNumbers
+unfolding returnedNumbers
 returns c = cc
 
-pub told-numbers-spec : {M : Type 1} → statement M
-told-numbers-spec =
+pub returned-numbers-spec : {M : Type 1} → statement M
+returned-numbers-spec =
     tie.close (tie.spec state-numbers-requires reply-kind-requires reply-number-requires returns)
