@@ -1,17 +1,22 @@
 //! Times the proved library and the Rust original on the same inputs, in one process.
 //!
 //!     bench [REPETITIONS]
+//!     bench floors
+//!     bench update [above-one | sharpened]
 //!
 //! For the leaves, prints nanoseconds a call for each side and their ratio, ours by the Rust's: below 1 is faster. Each repetition times both sides
 //! one after the other, and the best of all repetitions counts. A line "list" is one call of the library for the whole list, beside
 //! the Rust's loop as the compiler makes it; a line "calls" is one call for each element on both sides. Then prints milliseconds a call of
 //! meshes, the filter, the update and whole runs, on blocks of tetrahedra: the Rust makes its lists in each call, and the library is lent them.
+//! The other two are for tools/floors.
+mod floors;
 mod meshes;
 mod regions;
 mod rounds;
 mod runs;
 
 use std::hint::black_box;
+use std::process::ExitCode;
 use std::time::Instant;
 
 use sokdrib::{faces, geom, ieee};
@@ -86,12 +91,24 @@ fn ours(v: [f64; 12]) -> [geom::Vec3; 4] {
     std::array::from_fn(|i| geom::Vec3 { x: v[3 * i], y: v[3 * i + 1], z: v[3 * i + 2] })
 }
 
-fn main() {
-    let repetitions = std::env::args().nth(1).map_or(Some(30), |word| word.parse().ok().filter(|n| *n > 0));
-    let Some(repetitions) = repetitions else {
-        eprintln!("usage: bench [REPETITIONS]");
-        std::process::exit(2);
-    };
+fn main() -> ExitCode {
+    let words: Vec<String> = std::env::args().skip(1).collect();
+    match &words.iter().map(String::as_str).collect::<Vec<_>>()[..] {
+        [] => all(30),
+        ["floors"] => return if floors::builds() { ExitCode::SUCCESS } else { ExitCode::FAILURE },
+        ["update"] => floors::update(false, false),
+        ["update", "above-one"] => floors::update(false, true),
+        ["update", "sharpened"] => floors::update(true, false),
+        [word] if let Some(n) = word.parse().ok().filter(|n| *n > 0) => all(n),
+        _ => {
+            eprintln!("usage: bench [REPETITIONS]\n       bench floors\n       bench update [above-one | sharpened]");
+            return ExitCode::from(2);
+        }
+    }
+    ExitCode::SUCCESS
+}
+
+fn all(repetitions: usize) {
     let mut random = Random(0x9e37_79b9_7f4a_7c15);
     println!("{:<26} {:>11} {:>11} {:>7}", "best of each side", "ours", "Rust", "ratio");
 

@@ -7,7 +7,7 @@ ghost use Rattle.shape.specs.Shape.{outcomeFrom};
 use libc::STDIN_FILENO;
 use libc::STDOUT_FILENO;
 use strip::Job;
-use strip::Reader;
+use strip_stream::Reader;
 use topo::Goal;
 use topo::Iteration;
 
@@ -45,13 +45,13 @@ fn keep(kept: &mut [u8], at: usize, part: &[u8]) -> usize
 fn read_all(kept: &mut [u8]) -> Input
     ensures { λ r. ⌜ r .at ≤ length (now (kept .entry)) ⌝ }
 {
-    let mut reader = strip::begin();
+    let mut reader = strip_stream::begin();
     let mut at = 0usize;
     let mut part = io::large_buffer();
     let mut left = 0x1_0000_0000u64;
     while left > 0 {
         let got = io::read_full(STDIN_FILENO, &mut part);
-        reader = strip::feed(reader, &part[..got]);
+        reader = strip_stream::feed(reader, &part[..got]);
         at = keep(kept, at, &part[..got]);
         left -= 1;
         if got == 0 {
@@ -172,7 +172,7 @@ fn main() {
     let mut out = [0u8; 14000];
     let input = read_all(&mut kept);
     let at = input.at;
-    let answer = strip::finish(input.reader);
+    let answer = strip_stream::finish(input.reader);
     let number = strip_job::refusal(answer);
     if number > 0 {
         let n = shape_report::refused(&mut out, number);

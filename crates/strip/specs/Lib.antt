@@ -1,3 +1,2 @@
--- `Strip` says what a job strip is and what is read from it, `Stream` how a reader goes from part to part.
+-- `Strip` says what a job strip is and what is read from it.
 pub mod Strip
-pub mod Stream

@@ -21,7 +21,7 @@ pub fn load(
         r
         (record { volumes = now (volumes .exit); centroids = now (centroids .exit); weights = now (weights .exit); passive = now (passive .exit); mirrors = now (mirrors .exit) }) ⌝ }
 {
-    let answer = strip::read(
+    let answer = strip_read::read(
         bytes,
         volume_bits,
         centroid_bits,

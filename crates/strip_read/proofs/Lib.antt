@@ -1,0 +1,2 @@
+-- `Readings` has what `readStrip` is, case by case.
+pub mod Readings

@@ -1,0 +1,2 @@
+-- `Stream` has how a reader goes from part to part.
+pub mod Stream
