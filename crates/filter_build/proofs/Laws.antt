@@ -9,6 +9,7 @@ use lib.Dec.{ltb, eqb}
 use lib.Ieee.{Float}
 use borrow.Author.Tests.{eqb-true, eqb-false, ltb-false, not-false, eq-eqb, ne-eqb}
 use Rattle.lists.specs.Lists.{tabulate, overwrite, choose, zero64, overlay}
+use Rattle.lists.proofs.Bools.{at-most-zero}
 use Rattle.lists.proofs.Laws.{length-tabulate, overwrite-is, choose-true, choose-false, passes-on, neither}
 use Rattle.filter.specs.Filter.{start}
 use Rattle.filter.specs.Build.{Lent, kept, zeroed, built, rowsRefusal, shortOf, early, outcome, Built}
@@ -64,14 +65,11 @@ module _ (centroids : List (List Float)) (volumes : List Float) (radius : Float)
         maps = ltb-false bits 1040 (s9 .1);
       }
 
-pub none : (k : ℕ) → k ≤ 0 → k ≡ 0
-none k h = omega arith
-
 -- what is filled by a number that is none is filled by 0
 pub filled : (centroids : List (List Float)) (radius : Float) (planes : List (List Float)) (volumes : List Float) (starts near : List ℕ) (coef : List Float) (k : ℕ) (starts' near' : List ℕ) (coef' : List Float)
     → k ≤ 0 → Filled centroids radius planes volumes starts near coef k starts' near' coef' → Filled centroids radius planes volumes starts near coef 0 starts' near' coef'
 filled centroids radius planes volumes starts near coef k starts' near' coef' h f =
-    let z = none k h in
+    let z = at-most-zero k h in
     record { numbers = sym z ∙ f .numbers; begins = λ _. f .begins z; nears = λ _. f .nears z; coefs = λ _. f .coefs z }
 
 laid-tabulate : {A : Type 0} (f : ℕ → A) (n : ℕ) (l : List A) → n ≤ length l → overwrite f n l ≡ overlay (tabulate f n) l

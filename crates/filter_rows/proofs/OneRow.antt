@@ -8,12 +8,13 @@ use lib.ListN.{length, getD, set, replicate, length-replicate}
 use borrow.Author.Tests.{ne-eqb}
 use lib.Ieee.{Float, nan, binary64, add, mul, div}
 use Rattle.lists.specs.Lists.{foldTo, sumTo, choose, zero64}
-use Rattle.lists.proofs.Laws.{foldTo-none, any-none, any-not, choose-false}
+use Rattle.lists.proofs.Bools.{never}
+use Rattle.lists.proofs.Laws.{foldTo-none, any-none, any-not, choose-false, sumTo-same}
 use Rattle.filter.specs.Group.{members}
 use Rattle.filter.specs.Filter.{chosen, counts, share, seen, met, weight, columns, product, rowSum, coefficient}
 use Rattle.filter_meet.specs.Steps.{stamped, marked, Lists, Gathered}
 use Rattle.filter_rows.specs.Steps.{productAt, written, cleared, Settled, Clean, Rowed}
-use Rattle.filter_meet.proofs.Chosen.{never, chosen-same, found-at, found-rising, found-has}
+use Rattle.filter_meet.proofs.Chosen.{chosen-same, found-at, found-rising, found-has}
 use Rattle.filter_rows.proofs.Writes.{length-cleared, cleared-else, cleared-there, getD-zeros}
 
 -- ---- before a row
@@ -83,14 +84,6 @@ written-same {A} at f h (suc k) l same =
     let rest : written at f k l ≡ written at h k l = written-same at f h k l (λ j b. same j (omega arith)) in
     λ i. set (rest i) (at + k) (here i)
 
-sum-same : (f h : ℕ → Float) (count : ℕ) → ((k : ℕ) → k < count → f k ≡ h k) → sumTo f count ≡ sumTo h count
-unfolding sumTo foldTo
-sum-same f h zero same = refl
-sum-same f h (suc k) same =
-    let here : f k ≡ h k = same k (omega arith) in
-    let rest : sumTo f k ≡ sumTo h k = sum-same f h k (λ j b. same j (omega arith)) in
-    λ i. add binary64 (rest i) (here i)
-
 module _ (centroids : List (List Float)) (radius : Float) (planes : List (List Float)) (volumes : List Float) (e at count : ℕ) (stamp : List ℕ) (weights : List Float) (near : List ℕ) (coef : List Float)
     (number end : ℕ) (found : List ℕ) (weights' : List Float) (near' : List ℕ) (coef' : List Float)
     (all : Gathered centroids radius planes e (e + 1) (members planes) stamp weights) (long : length stamp ≡ length centroids) (wide : length weights ≡ length centroids)
@@ -119,7 +112,7 @@ module _ (centroids : List (List Float)) (radius : Float) (planes : List (List F
 
     sum-is : sumTo (productAt found weights volumes) count ≡ rowSum centroids radius planes volumes e
     unfolding rowSum
-    sum-is = sum-same (productAt found weights volumes) (λ k. product centroids radius planes volumes e (getD cols k 0)) count product-is ∙ ap (sumTo (λ k. product centroids radius planes volumes e (getD cols k 0))) many
+    sum-is = sumTo-same (productAt found weights volumes) (λ k. product centroids radius planes volumes e (getD cols k 0)) count product-is ∙ ap (sumTo (λ k. product centroids radius planes volumes e (getD cols k 0))) many
 
     nears-are : near' ≡ written at (λ k. getD cols k 0) (length cols) near
     nears-are = s .writes ok .nears ∙ written-same at (λ k. getD found k 0) (λ k. getD cols k 0) count near at-found ∙ ap (λ (n : ℕ). written at (λ k. getD cols k 0) n near) many

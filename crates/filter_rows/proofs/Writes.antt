@@ -1,26 +1,17 @@
 -- Places written one after the other: what a list holds after them, and a list written from the end of what was laid before. Assumes nothing.
 use mathlib.Core.Path.{_≡_, refl, sym, ap, _∙_}
-use mathlib.Core.Bool.{Bool, true, false}
-use mathlib.Core.Logic.{_⊎_, inl, inr, ⊎-elim}
+use mathlib.Core.Logic.{_⊎_, ⊎-elim}
 use mathlib.Core.List.{List}
 use Prim.Native.Nat.{ℕ, zero, suc, _+_, _<_}
 use native.Mathlib.Nat.{not-suc-le-zero, eq-or-lt-of-le}
 use native.Mathlib.Omega.{arith}
 use lib.ListN.{length, getD, set, replicate, length-set, getD-replicate}
 use lib.Seq.{getD-set-same, getD-set-other}
-use lib.Dec.{eqb}
-use borrow.Author.Tests.{eqb-true, eqb-false}
 use lib.Ieee.{Float}
 use Rattle.lists.specs.Lists.{foldTo, zero64}
+use Rattle.lists.proofs.Bools.{eq-or-ne}
 use Rattle.lists.proofs.Laws.{foldTo-none, foldTo-more}
 use Rattle.filter_rows.specs.Steps.{written, cleared, Apart}
-
-eq-or-not : (a b : ℕ) → (a ≡ b) ⊎ (a ≡ b → ⊥)
-eq-or-not a b = go (eqb a b) refl
-  where
-    go : (t : Bool) → eqb a b ≡ t → (a ≡ b) ⊎ (a ≡ b → ⊥)
-    go true e = inl (eqb-true a b e)
-    go false e = inr (eqb-false a b e)
 
 pub written-none : {A : Type 0} (at : ℕ) (f : ℕ → A) (l : List A) → l ≡ written at f 0 l
 unfolding written
@@ -67,7 +58,7 @@ cleared-there found (suc k) l j d h b =
     (λ (e : j ≡ k). absurd (ne (ap (λ (i : ℕ). getD found i 0) e)))
     (λ (lt : j < k). cleared-there found k l j d lt b)
     (eq-or-lt-of-le (omega arith)))
-    (eq-or-not (getD found j 0) (getD found k 0))
+    (eq-or-ne (getD found j 0) (getD found k 0))
 
 -- a list of one value
 pub getD-zeros : {A : Type 0} (z d : A) (n : ℕ) (l : List A) (i : ℕ) → l ≡ replicate n z → i < n → getD l i d ≡ z

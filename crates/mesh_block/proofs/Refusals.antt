@@ -1,6 +1,6 @@
 -- What the chain of refusals says where none is given. Assumes nothing.
 use mathlib.Core.Path.{_≡_}
-use mathlib.Core.Bool.{Bool, true, false, _||_}
+use mathlib.Core.Bool.{Bool, false, _||_}
 use Prim.Native.Nat.{ℕ, _≤_}
 use native.Mathlib.Omega.{arith}
 use borrow.Author.Tests.{ltb-false}
@@ -11,9 +11,6 @@ use Rattle.mesh.specs.Mesh.{nodeOutside}
 use Rattle.mesh_lattice.specs.declared.Grid.{Grid}
 use Rattle.mesh_lattice.specs.Lattice.{tetsIn, nodesIn, slotsIn}
 use Rattle.mesh_block.specs.Block.{trianglesIn, tooMany, refusalOf}
-
-pub or-first : (a b : Bool) → a ≡ true → (a || b) ≡ true
-or-first a b e = rw e
 
 pub or-second : (a b : Bool) → a ≡ false → (a || b) ≡ b
 or-second a b e = rw e

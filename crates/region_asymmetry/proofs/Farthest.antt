@@ -2,22 +2,16 @@
 use mathlib.Core.Path.{_≡_, refl, ap, _∙_}
 use mathlib.Core.Bool.{Bool, false}
 use mathlib.Core.List.{List, []}
-use Prim.Native.Nat.{ℕ, zero, suc, _<_}
-use native.Mathlib.Omega.{arith}
+use Prim.Native.Nat.{ℕ}
 use lib.ListN.{length, getD}
 use lib.Ieee.{Float}
 use Rattle.lists.specs.Lists.{tabulate, foldTo, anyTo, choose, zero64}
-use Rattle.lists.proofs.Laws.{getD-tabulate, foldTo-keeps, choose-false}
+use Rattle.lists.proofs.Laws.{getD-tabulate, foldTo-keeps, choose-false, foldTo-same}
 use Rattle.geom.specs.declared.Mirror.{Mirror}
 use Rattle.mesh.specs.Mesh.{point}
 use Rattle.region_tree.specs.Tree.{Tree}
 use Rattle.region_asymmetry.specs.Asymmetry.{facesOf, isCorner, wholeTree, farther, asymmetryOf}
 use Rattle.region_asymmetry.specs.Steps.{farthestIn}
-
-foldTo-same : {A : Type 0} (f g : ℕ → A → A) (x : A) (n : ℕ) → ((k : ℕ) → k < n → (y : A) → f k y ≡ g k y) → foldTo f x n ≡ foldTo g x n
-unfolding foldTo
-foldTo-same f g x zero h = refl
-foldTo-same f g x (suc n) h = ap (f n) (foldTo-same f g x n (λ k b. h k (omega arith))) ∙ h n (omega arith) (foldTo g x n)
 
 no-corner : (tris : List (List ℕ)) (k : ℕ) → length tris ≡ 0 → isCorner tris k ≡ false
 unfolding isCorner anyTo

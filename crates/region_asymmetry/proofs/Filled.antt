@@ -7,6 +7,7 @@ use native.Mathlib.Omega.{arith}
 use borrow.Author.Tests.{eq-eqb, ne-eqb, eqb-true, eqb-false}
 use lib.ListN.{length, getD, set}
 use lib.Dec.{eqb}
+use Rattle.lists.proofs.Bools.{or-true, or-false}
 use Rattle.lists.specs.Lists.{tabulate, overwrite}
 
 -- f of each of xs, written over a list as long
@@ -21,14 +22,6 @@ pub fill-all : {A : Type 0} (f : ℕ → A) (l : List A) → overwrite f (length
 unfolding overwrite tabulate
 fill-all f [] = refl
 fill-all f (x ∷ l) = ap (λ (t : List _). f zero ∷ t) (fill-all (λ k. f (suc k)) l)
-
-or-true : (b : Bool) → (b || true) ≡ true
-or-true true = refl
-or-true false = refl
-
-or-false : (b : Bool) → (b || false) ≡ b
-or-false true = refl
-or-false false = refl
 
 eqb-suc : (a k : ℕ) → eqb (suc a) (suc k) ≡ eqb a k
 eqb-suc a k = go (eqb a k) refl

@@ -7,10 +7,10 @@ use Prim.Native.Nat.{ℕ, _+_, _-_, _^_, _≤_, _<_, min}
 use native.Mathlib.Omega.{arith}
 use lib.ListN.{length, getD}
 use lib.Dec.{leb, ltb}
-use lib.Ieee.{Float, nan, inf, fin, binary64, mul}
+use lib.Ieee.{Float, binary64, mul}
 use borrow.Author.Tests.{le-leb, lt-leb, lt-ltb, le-ltb}
+use Rattle.ieee_whole.proofs.Floor.{floor-fits}
 use Rattle.lists.proofs.Laws.{length-tabulate, getD-tabulate}
-use Rattle.ieee_whole.specs.Whole.{floorAt}
 use Rattle.mesh.specs.Mesh.{point}
 use Rattle.cells.specs.Cells.{axis, within, boxCell, inBox, changed}
 use Rattle.cells.proofs.Changed.{changed-none, changed-same, and-false}
@@ -18,14 +18,6 @@ use Rattle.lists.proofs.Bools.{le-or-lt}
 use Rattle.region_by_depth.specs.Depth.{lowOf, highOf, cellNumber, axisNear, cellsNear, reaches}
 use Rattle.region_by_depth.specs.Steps.{cellAbout, Ready, nearAt, boxNear, reached}
 use Rattle.region_by_depth.specs.declared.Triangle.{Triangle}
-
-floor-fits : (v : Float) → floorAt v < 2 ^ 64
-unfolding floorAt
-floor-fits nan = omega arith
-floor-fits (inf true) = omega arith
-floor-fits (inf false) = omega arith
-floor-fits (fin true m e) = omega arith
-floor-fits (fin false m e) = omega arith
 
 -- the numbers within one of those from l to h, of those that fit 64 digits
 range-within : (l h v : ℕ) → v < 2 ^ 64 → (leb l (v + 1) && leb v (h + 1)) ≡ within (l - 1) (min (h + 1) (2 ^ 64 - 1) + 1) v

@@ -1,8 +1,8 @@
 -- A walk of a box of cells marks the near elements there. Assumes nothing.
 use mathlib.Core.Path.{_≡_, refl, sym, ap, _∙_}
 use mathlib.Core.Bool.{Bool, true, false, _&&_}
-use mathlib.Core.List.{List, [], _∷_}
-use Prim.Native.Nat.{ℕ, zero, suc, _+_, _≤_, _<_}
+use mathlib.Core.List.{List}
+use Prim.Native.Nat.{ℕ, _+_, _≤_, _<_}
 use native.Mathlib.Omega.{arith}
 use lib.ListN.{length, getD, set}
 use lib.Seq.{set-getD}
@@ -62,9 +62,3 @@ module _ (t : Triangle) (limit : Float) (middles : List (List Float)) (cells : L
         go false q f =
             e ∙ choose-false _ _ _ q
             ∙ walk-miss cells order first m p (near-own x (x + 1) y (y + 1) z0 (z1 + 1)) (λ _ _. true) true marks a k le lt w inv (sym (seen-is k own) ∙ q) f
-
--- a read below a list's length does not see the default
-pub getD-default : {A : Type 0} (l : List A) (k : ℕ) (d e : A) → k < length l → getD l k d ≡ getD l k e
-getD-default [] k d e h = absurd (omega arith)
-getD-default (x ∷ l) zero d e h = refl
-getD-default (x ∷ l) (suc k) d e h = getD-default l k d e (omega arith)

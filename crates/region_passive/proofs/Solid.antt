@@ -1,13 +1,13 @@
 -- The stages mark the elements that must stay solid. Assumes nothing.
 use mathlib.Core.Path.{_≡_, refl, sym, ap, _∙_}
 use mathlib.Core.Bool.{Bool, _||_}
-use mathlib.Core.List.{List, [], _∷_, _++_}
-use Prim.Native.Nat.{ℕ, zero, suc, _+_, _≤_, _<_}
+use mathlib.Core.List.{List, [], _++_}
+use Prim.Native.Nat.{ℕ, _+_, _≤_, _<_}
 use native.Mathlib.Omega.{arith}
 use lib.ListN.{length, getD, drop}
 use lib.Ieee.{Float, nan}
 use Rattle.lists.specs.Lists.{tabulate, overwrite, anyTo}
-use Rattle.lists.proofs.Laws.{getD-tabulate, foldTo-none, foldTo-more, overwrite-is}
+use Rattle.lists.proofs.Laws.{getD-tabulate, foldTo-none, foldTo-more, overwrite-is, tabulate-same}
 use Rattle.geom.specs.declared.Vec3.{Vec3}
 use Rattle.mesh.specs.Mesh.{point, stored, centroidOf}
 use Rattle.region_by_nodes.specs.Nodes.{inSet, byNodes}
@@ -17,14 +17,6 @@ use Rattle.region_by_depth.specs.Steps.{reachedBy}
 use Rattle.region_by_depth.proofs.Depths.{reached-by-adds}
 use Rattle.region_passive.specs.Passive.{Problem, setsIn, passiveAt}
 use Rattle.region_passive.specs.Steps.{deepened, deepenedTo}
-
-tabulate-below : {A : Type 0} (f g : ℕ → A) (n : ℕ) → ((k : ℕ) → k < n → f k ≡ g k) → tabulate f n ≡ tabulate g n
-unfolding tabulate
-tabulate-below f g zero h = refl
-tabulate-below f g (suc n) h =
-    let head : f zero ≡ g zero = h zero (omega arith) in
-    let tail : tabulate (λ k. f (suc k)) n ≡ tabulate (λ k. g (suc k)) n = tabulate-below (λ k. f (suc k)) (λ k. g (suc k)) n (λ k lt. h (suc k) (omega arith)) in
-    λ i. head i ∷ tail i
 
 module _ (q : Problem) (middles : List (List Float)) where
   pub deepened-none : (w : List Bool) → w ≡ deepenedTo q middles 0 w
@@ -61,7 +53,7 @@ module _ (q : Problem) where
   unfolding passiveAt
   solid marks marks′ middles e em e′ =
       e′ ∙ ap (deepenedTo q middles (setsIn q)) e ∙ deepened-to-adds q middles (length (q .tets)) (setsIn q) byNode
-      ∙ tabulate-below (λ i. byNode i || anyTo (λ s. picks q middles s i) (setsIn q)) (passiveAt q) (length (q .tets))
+      ∙ tabulate-same (λ i. byNode i || anyTo (λ s. picks q middles s i) (setsIn q)) (passiveAt q) (length (q .tets))
       (λ i lt. ap (λ (p : Vec3). byNode i || anyTo (λ s. byDepth (q .nodes) (q .tris) (inSet (q .surfaces) (q .starts) (q .kept) s) (getD (q .depths) s nan) p) (setsIn q)) (middle i lt))
     where
       middle : (i : ℕ) → i < length (q .tets) → point (getD middles i []) ≡ centroidOf (q .nodes) (getD (q .tets) i [])
@@ -69,7 +61,7 @@ module _ (q : Problem) where
 
   -- no elements
   pub solid-none : (marks : List Bool) → length (q .tets) ≡ 0 → marks ≡ tabulate byNode (length (q .tets)) → marks ≡ tabulate (passiveAt q) (length (q .tets))
-  solid-none marks none e = e ∙ tabulate-below byNode (passiveAt q) (length (q .tets)) (λ k lt. absurd (omega arith))
+  solid-none marks none e = e ∙ tabulate-same byNode (passiveAt q) (length (q .tets)) (λ k lt. absurd (omega arith))
 
   -- the front of a list
   pub solid-front : (part marks : List Bool) → length (q .tets) ≤ length marks → part ≡ tabulate (passiveAt q) (length (q .tets)) → part ++ drop (length (q .tets)) marks ≡ overwrite (passiveAt q) (length (q .tets)) marks

@@ -1,12 +1,10 @@
 -- `mesh_block::fill` meets its contract: where nothing is refused the lists are long enough (`Refusals`), and the calls' promises are the contract's. Assumes nothing.
-use mathlib.Core.Path.{_≡_, refl, sym, ap, _∙_}
-use mathlib.Core.Bool.{true, false}
-use Prim.Native.Nat.{ℕ, _≤_, _<_}
+use mathlib.Core.Path.{refl, sym, ap, _∙_}
+use mathlib.Core.Bool.{true}
 use native.Mathlib.Omega.{arith}
 use native.Mathlib.Nat.{le-trans}
-use borrow.Author.Tests.{ne-eqb}
-use lib.Dec.{eqb}
 use lib.ListN.{length}
+use Rattle.lists.proofs.Bools.{at-most-zero, positive-is-not-zero}
 use Rattle.lists.proofs.Laws.{choose-true, choose-false, length-overwrite}
 use Rattle.mesh_lattice.specs.Lattice.{tetsIn, tetOf}
 use Rattle.mesh_lattice.specs.Bounds.{Small}
@@ -18,16 +16,10 @@ use borrow.Author.Needs.{needs}
 use Rattle.mesh_block.proofs.fill.Statement.{statement}
 use Rattle.mesh_block.proofs.fill.Tie as tie
 
-positive : (r : ℕ) → 0 < r → eqb r 0 ≡ false
-positive r h = ne-eqb r 0 (λ (z : r ≡ 0). omega arith)
-
-none : (r : ℕ) → r ≤ 0 → r ≡ 0
-none r h = omega arith
-
 -- where nothing is refused
 module _ (c : tie.Else1) where
   ok : Accepted (c .before .before .before .before .args .g) (length (c .before .before .before .before .args .nodes .now)) (length (c .before .before .before .before .args .tets .now)) (length (c .before .before .before .before .args .surfaces .now)) (length (c .before .before .before .before .args .tris .now)) (length (c .before .before .before .before .args .edges .now))
-  ok = accepted _ _ _ _ _ _ (sym (c .before .refusal .ensures) ∙ none _ (c .if1 .left))
+  ok = accepted _ _ _ _ _ _ (sym (c .before .refusal .ensures) ∙ at-most-zero _ (c .if1 .left))
 
   small : Small (c .before .before .before .before .args .g)
   small = small-of _ (c .before .before .before .before .pre) (ok .few-tets)
@@ -36,7 +28,7 @@ refusal-requires : tie.Need-refusal-requires
 refusal-requires c κs = search needs
 
 returns : tie.Need-returns
-returns c = let no = positive (c .before .refusal .result) (c .if1 .taken) in
+returns c = let no = positive-is-not-zero (c .before .refusal .result) (c .if1 .taken) in
     record {
       refusal = c .before .refusal .ensures;
       node-count = sym (choose-false _ _ _ no);
@@ -93,7 +85,7 @@ returns-2 : tie.Need-returns-2
 returns-2 c = let b = c .before .before .before .before .before .before .before .before .before .before .before .before .build .ensures in
     let t = c .before .before .before .before .triangles .ensures in
     record {
-      refusal = sym (none _ (c .before .before .before .before .before .before .before .before .before .before .before .before .before .before .before .before .if1 .left)) ∙ c .before .before .before .before .before .before .before .before .before .before .before .before .before .before .before .before .before .refusal .ensures;
+      refusal = sym (at-most-zero _ (c .before .before .before .before .before .before .before .before .before .before .before .before .before .before .before .before .if1 .left)) ∙ c .before .before .before .before .before .before .before .before .before .before .before .before .before .before .before .before .before .refusal .ensures;
       node-count = b .next-is ∙ sym (choose-true true _ 0 refl);
       tet-count = c .tet-count .ensures ∙ sym (choose-true true _ 0 refl);
       tri-count = t .next-is ∙ sym (choose-true true _ 0 refl);

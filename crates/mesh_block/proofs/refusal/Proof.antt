@@ -6,12 +6,13 @@ use native.Mathlib.Omega.{arith}
 use borrow.Author.Tests.{ltb-false}
 use lib.Dec.{ltb}
 use lib.ListN.{length}
+use Rattle.lists.proofs.Bools.{or-left}
 use Rattle.lists.proofs.Laws.{choose-true, choose-false}
 use Rattle.mesh_lattice.specs.Lattice.{tetsIn, nodesIn, slotsIn}
 use Rattle.mesh_block.specs.Block.{trianglesIn, tooMany, refusalOf}
 use Rattle.mesh_lattice.specs.Bounds.{Small}
 use Rattle.mesh_lattice.proofs.Numbers.{small-of}
-use Rattle.mesh_block.proofs.Refusals.{or-first, or-second}
+use Rattle.mesh_block.proofs.Refusals.{or-second}
 use borrow.Author.Needs.{needs}
 use Rattle.mesh_block.proofs.refusal.Statement.{statement}
 use Rattle.mesh_block.proofs.refusal.Tie as tie
@@ -53,7 +54,7 @@ crowded-requires c κs = search needs
 
 returns : tie.Need-returns
 unfolding refusalOf
-returns c = sym (choose-true _ _ _ (or-first _ _ (sym (c .before .crowded .ensures) ∙ c .if1 .taken)))
+returns c = sym (choose-true _ _ _ (or-left _ _ (sym (c .before .crowded .ensures) ∙ c .if1 .taken)))
 
 node-count-requires : tie.Need-node-count-requires
 node-count-requires c κs = small c

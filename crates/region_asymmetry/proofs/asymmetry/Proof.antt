@@ -1,9 +1,9 @@
 -- `region_asymmetry::asymmetry` meets its contract: the lists are long enough where nothing is refused, and only their needed places are lent on. Assumes nothing.
-use mathlib.Core.Path.{_≡_, sym, ap, _∙_}
-use Prim.Native.Nat.{ℕ, _≤_}
+use mathlib.Core.Path.{sym, ap, _∙_}
 use native.Mathlib.Omega.{arith}
 use lib.ListN.{length}
 use lib.Seq.{length-take-le}
+use Rattle.lists.proofs.Bools.{at-most-zero}
 use Rattle.region_asymmetry.specs.Asymmetry.{lent, tooShort}
 use Rattle.region_asymmetry.specs.declared.Distance.the-variants.{Refused, Apart}
 use Rattle.region_asymmetry.proofs.Farthest.{none-apart}
@@ -11,9 +11,6 @@ use Rattle.region_asymmetry.proofs.Lent.{long, positive, answer-refused
 use borrow.Author.Needs.{needs}
 use Rattle.region_asymmetry.proofs.asymmetry.Statement.{statement}
 use Rattle.region_asymmetry.proofs.asymmetry.Tie as tie
-
-zero-is : (r : ℕ) → r ≤ 0 → r ≡ 0
-zero-is r h = omega arith
 
 refusal-requires : tie.Need-refusal-requires
 refusal-requires c κs = search needs
@@ -40,7 +37,7 @@ returns-2 : tie.Need-returns-2
 unfolding tooShort
 returns-2 c = let a = c .before .before .before .before .before .before .before .before .before .args in
     let l = (lent (a .faces .now) (a .kx .now) (a .ky .now) (a .kz .now) (a .order .now) (a .scratch .now) (a .boxes .now) (a .seen .now)) in
-    let none = sym (c .before .before .refusal .ensures) ∙ zero-is _ (c .before .if1 .left) in
+    let none = sym (c .before .before .refusal .ensures) ∙ at-most-zero _ (c .before .if1 .left) in
     let n = length (a .tris .now) in
     record {
       answer = ap Apart (sym (none-apart (a .nodes .now) (a .tris .now) (a .mirror) (c .if2 .taken))) ∙ answer-apart _ _ none;
@@ -58,7 +55,7 @@ slice-relend-prefix-apart : tie.Need-slice-relend-prefix-apart
 unfolding tooShort
 slice-relend-prefix-apart c = let a = c .before .before .before .before .before .before .before .before .before .args in
     let l = (lent (a .faces .now) (a .kx .now) (a .ky .now) (a .kz .now) (a .order .now) (a .scratch .now) (a .boxes .now) (a .seen .now)) in
-    let none = sym (c .before .before .refusal .ensures) ∙ zero-is _ (c .before .if1 .left) in
+    let none = sym (c .before .before .refusal .ensures) ∙ at-most-zero _ (c .before .if1 .left) in
     let fit = long (a .nodes .now) (a .tris .now) (a .mirror) l none in
     fit .faces
 
@@ -66,7 +63,7 @@ slice-aggregate-apart : tie.Need-slice-aggregate-apart
 unfolding tooShort
 slice-aggregate-apart c = let a = c .before .before .before .before .before .before .before .before .before .before .args in
     let l = (lent (a .faces .now) (a .kx .now) (a .ky .now) (a .kz .now) (a .order .now) (a .scratch .now) (a .boxes .now) (a .seen .now)) in
-    let none = sym (c .before .before .before .refusal .ensures) ∙ zero-is _ (c .before .before .if1 .left) in
+    let none = sym (c .before .before .before .refusal .ensures) ∙ at-most-zero _ (c .before .before .if1 .left) in
     let fit = long (a .nodes .now) (a .tris .now) (a .mirror) l none in
     sym (length-take-le _ (a .faces .now) (fit .faces))
 
@@ -74,7 +71,7 @@ slice-relend-prefix-apart-2 : tie.Need-slice-relend-prefix-apart-2
 unfolding tooShort
 slice-relend-prefix-apart-2 c = let a = c .before .before .before .before .before .before .before .before .before .before .args in
     let l = (lent (a .faces .now) (a .kx .now) (a .ky .now) (a .kz .now) (a .order .now) (a .scratch .now) (a .boxes .now) (a .seen .now)) in
-    let none = sym (c .before .before .before .refusal .ensures) ∙ zero-is _ (c .before .before .if1 .left) in
+    let none = sym (c .before .before .before .refusal .ensures) ∙ at-most-zero _ (c .before .before .if1 .left) in
     let fit = long (a .nodes .now) (a .tris .now) (a .mirror) l none in
     fit .kx
 
@@ -82,7 +79,7 @@ slice-aggregate-apart-2 : tie.Need-slice-aggregate-apart-2
 unfolding tooShort
 slice-aggregate-apart-2 c = let a = c .before .before .before .before .before .before .before .before .before .before .before .args in
     let l = (lent (a .faces .now) (a .kx .now) (a .ky .now) (a .kz .now) (a .order .now) (a .scratch .now) (a .boxes .now) (a .seen .now)) in
-    let none = sym (c .before .before .before .before .refusal .ensures) ∙ zero-is _ (c .before .before .before .if1 .left) in
+    let none = sym (c .before .before .before .before .refusal .ensures) ∙ at-most-zero _ (c .before .before .before .if1 .left) in
     let fit = long (a .nodes .now) (a .tris .now) (a .mirror) l none in
     sym (length-take-le _ (a .kx .now) (fit .kx))
 
@@ -90,7 +87,7 @@ slice-relend-prefix-apart-3 : tie.Need-slice-relend-prefix-apart-3
 unfolding tooShort
 slice-relend-prefix-apart-3 c = let a = c .before .before .before .before .before .before .before .before .before .before .before .args in
     let l = (lent (a .faces .now) (a .kx .now) (a .ky .now) (a .kz .now) (a .order .now) (a .scratch .now) (a .boxes .now) (a .seen .now)) in
-    let none = sym (c .before .before .before .before .refusal .ensures) ∙ zero-is _ (c .before .before .before .if1 .left) in
+    let none = sym (c .before .before .before .before .refusal .ensures) ∙ at-most-zero _ (c .before .before .before .if1 .left) in
     let fit = long (a .nodes .now) (a .tris .now) (a .mirror) l none in
     fit .ky
 
@@ -98,7 +95,7 @@ slice-aggregate-apart-3 : tie.Need-slice-aggregate-apart-3
 unfolding tooShort
 slice-aggregate-apart-3 c = let a = c .before .before .before .before .before .before .before .before .before .before .before .before .args in
     let l = (lent (a .faces .now) (a .kx .now) (a .ky .now) (a .kz .now) (a .order .now) (a .scratch .now) (a .boxes .now) (a .seen .now)) in
-    let none = sym (c .before .before .before .before .before .refusal .ensures) ∙ zero-is _ (c .before .before .before .before .if1 .left) in
+    let none = sym (c .before .before .before .before .before .refusal .ensures) ∙ at-most-zero _ (c .before .before .before .before .if1 .left) in
     let fit = long (a .nodes .now) (a .tris .now) (a .mirror) l none in
     sym (length-take-le _ (a .ky .now) (fit .ky))
 
@@ -106,7 +103,7 @@ slice-relend-prefix-apart-4 : tie.Need-slice-relend-prefix-apart-4
 unfolding tooShort
 slice-relend-prefix-apart-4 c = let a = c .before .before .before .before .before .before .before .before .before .before .before .before .args in
     let l = (lent (a .faces .now) (a .kx .now) (a .ky .now) (a .kz .now) (a .order .now) (a .scratch .now) (a .boxes .now) (a .seen .now)) in
-    let none = sym (c .before .before .before .before .before .refusal .ensures) ∙ zero-is _ (c .before .before .before .before .if1 .left) in
+    let none = sym (c .before .before .before .before .before .refusal .ensures) ∙ at-most-zero _ (c .before .before .before .before .if1 .left) in
     let fit = long (a .nodes .now) (a .tris .now) (a .mirror) l none in
     fit .kz
 
@@ -114,7 +111,7 @@ slice-aggregate-apart-4 : tie.Need-slice-aggregate-apart-4
 unfolding tooShort
 slice-aggregate-apart-4 c = let a = c .before .before .before .before .before .before .before .before .before .before .before .before .before .args in
     let l = (lent (a .faces .now) (a .kx .now) (a .ky .now) (a .kz .now) (a .order .now) (a .scratch .now) (a .boxes .now) (a .seen .now)) in
-    let none = sym (c .before .before .before .before .before .before .refusal .ensures) ∙ zero-is _ (c .before .before .before .before .before .if1 .left) in
+    let none = sym (c .before .before .before .before .before .before .refusal .ensures) ∙ at-most-zero _ (c .before .before .before .before .before .if1 .left) in
     let fit = long (a .nodes .now) (a .tris .now) (a .mirror) l none in
     sym (length-take-le _ (a .kz .now) (fit .kz))
 
@@ -122,7 +119,7 @@ slice-relend-prefix-apart-5 : tie.Need-slice-relend-prefix-apart-5
 unfolding tooShort
 slice-relend-prefix-apart-5 c = let a = c .before .before .before .before .before .before .before .before .before .before .before .before .before .args in
     let l = (lent (a .faces .now) (a .kx .now) (a .ky .now) (a .kz .now) (a .order .now) (a .scratch .now) (a .boxes .now) (a .seen .now)) in
-    let none = sym (c .before .before .before .before .before .before .refusal .ensures) ∙ zero-is _ (c .before .before .before .before .before .if1 .left) in
+    let none = sym (c .before .before .before .before .before .before .refusal .ensures) ∙ at-most-zero _ (c .before .before .before .before .before .if1 .left) in
     let fit = long (a .nodes .now) (a .tris .now) (a .mirror) l none in
     fit .order
 
@@ -130,7 +127,7 @@ slice-aggregate-apart-5 : tie.Need-slice-aggregate-apart-5
 unfolding tooShort
 slice-aggregate-apart-5 c = let a = c .before .before .before .before .before .before .before .before .before .before .before .before .before .before .args in
     let l = (lent (a .faces .now) (a .kx .now) (a .ky .now) (a .kz .now) (a .order .now) (a .scratch .now) (a .boxes .now) (a .seen .now)) in
-    let none = sym (c .before .before .before .before .before .before .before .refusal .ensures) ∙ zero-is _ (c .before .before .before .before .before .before .if1 .left) in
+    let none = sym (c .before .before .before .before .before .before .before .refusal .ensures) ∙ at-most-zero _ (c .before .before .before .before .before .before .if1 .left) in
     let fit = long (a .nodes .now) (a .tris .now) (a .mirror) l none in
     sym (length-take-le _ (a .order .now) (fit .order))
 
@@ -138,7 +135,7 @@ slice-relend-prefix-apart-6 : tie.Need-slice-relend-prefix-apart-6
 unfolding tooShort
 slice-relend-prefix-apart-6 c = let a = c .before .before .before .before .before .before .before .before .before .before .before .before .before .before .args in
     let l = (lent (a .faces .now) (a .kx .now) (a .ky .now) (a .kz .now) (a .order .now) (a .scratch .now) (a .boxes .now) (a .seen .now)) in
-    let none = sym (c .before .before .before .before .before .before .before .refusal .ensures) ∙ zero-is _ (c .before .before .before .before .before .before .if1 .left) in
+    let none = sym (c .before .before .before .before .before .before .before .refusal .ensures) ∙ at-most-zero _ (c .before .before .before .before .before .before .if1 .left) in
     let fit = long (a .nodes .now) (a .tris .now) (a .mirror) l none in
     fit .scratch
 
@@ -146,7 +143,7 @@ slice-aggregate-apart-6 : tie.Need-slice-aggregate-apart-6
 unfolding tooShort
 slice-aggregate-apart-6 c = let a = c .before .before .before .before .before .before .before .before .before .before .before .before .before .before .before .args in
     let l = (lent (a .faces .now) (a .kx .now) (a .ky .now) (a .kz .now) (a .order .now) (a .scratch .now) (a .boxes .now) (a .seen .now)) in
-    let none = sym (c .before .before .before .before .before .before .before .before .refusal .ensures) ∙ zero-is _ (c .before .before .before .before .before .before .before .if1 .left) in
+    let none = sym (c .before .before .before .before .before .before .before .before .refusal .ensures) ∙ at-most-zero _ (c .before .before .before .before .before .before .before .if1 .left) in
     let fit = long (a .nodes .now) (a .tris .now) (a .mirror) l none in
     sym (length-take-le _ (a .scratch .now) (fit .scratch))
 
@@ -154,7 +151,7 @@ slice-relend-prefix-apart-7 : tie.Need-slice-relend-prefix-apart-7
 unfolding tooShort
 slice-relend-prefix-apart-7 c = let a = c .before .before .before .before .before .before .before .before .before .before .before .before .before .before .before .args in
     let l = (lent (a .faces .now) (a .kx .now) (a .ky .now) (a .kz .now) (a .order .now) (a .scratch .now) (a .boxes .now) (a .seen .now)) in
-    let none = sym (c .before .before .before .before .before .before .before .before .refusal .ensures) ∙ zero-is _ (c .before .before .before .before .before .before .before .if1 .left) in
+    let none = sym (c .before .before .before .before .before .before .before .before .refusal .ensures) ∙ at-most-zero _ (c .before .before .before .before .before .before .before .if1 .left) in
     let fit = long (a .nodes .now) (a .tris .now) (a .mirror) l none in
     fit .boxes
 
@@ -162,7 +159,7 @@ slice-aggregate-apart-7 : tie.Need-slice-aggregate-apart-7
 unfolding tooShort
 slice-aggregate-apart-7 c = let a = c .before .before .before .before .before .before .before .before .before .before .before .before .before .before .before .before .args in
     let l = (lent (a .faces .now) (a .kx .now) (a .ky .now) (a .kz .now) (a .order .now) (a .scratch .now) (a .boxes .now) (a .seen .now)) in
-    let none = sym (c .before .before .before .before .before .before .before .before .before .refusal .ensures) ∙ zero-is _ (c .before .before .before .before .before .before .before .before .if1 .left) in
+    let none = sym (c .before .before .before .before .before .before .before .before .before .refusal .ensures) ∙ at-most-zero _ (c .before .before .before .before .before .before .before .before .if1 .left) in
     let fit = long (a .nodes .now) (a .tris .now) (a .mirror) l none in
     sym (length-take-le _ (a .boxes .now) (fit .boxes))
 
@@ -170,7 +167,7 @@ slice-relend-prefix-apart-8 : tie.Need-slice-relend-prefix-apart-8
 unfolding tooShort
 slice-relend-prefix-apart-8 c = let a = c .before .before .before .before .before .before .before .before .before .before .before .before .before .before .before .before .args in
     let l = (lent (a .faces .now) (a .kx .now) (a .ky .now) (a .kz .now) (a .order .now) (a .scratch .now) (a .boxes .now) (a .seen .now)) in
-    let none = sym (c .before .before .before .before .before .before .before .before .before .refusal .ensures) ∙ zero-is _ (c .before .before .before .before .before .before .before .before .if1 .left) in
+    let none = sym (c .before .before .before .before .before .before .before .before .before .refusal .ensures) ∙ at-most-zero _ (c .before .before .before .before .before .before .before .before .if1 .left) in
     let fit = long (a .nodes .now) (a .tris .now) (a .mirror) l none in
     fit .seen
 
@@ -178,7 +175,7 @@ slice-aggregate-apart-8 : tie.Need-slice-aggregate-apart-8
 unfolding tooShort
 slice-aggregate-apart-8 c = let a = c .before .before .before .before .before .before .before .before .before .before .before .before .before .before .before .before .before .args in
     let l = (lent (a .faces .now) (a .kx .now) (a .ky .now) (a .kz .now) (a .order .now) (a .scratch .now) (a .boxes .now) (a .seen .now)) in
-    let none = sym (c .before .before .before .before .before .before .before .before .before .before .refusal .ensures) ∙ zero-is _ (c .before .before .before .before .before .before .before .before .before .if1 .left) in
+    let none = sym (c .before .before .before .before .before .before .before .before .before .before .refusal .ensures) ∙ at-most-zero _ (c .before .before .before .before .before .before .before .before .before .if1 .left) in
     let fit = long (a .nodes .now) (a .tris .now) (a .mirror) l none in
     sym (length-take-le _ (a .seen .now) (fit .seen))
 
@@ -186,7 +183,7 @@ apart-requires : tie.Need-apart-requires
 unfolding tooShort
 apart-requires c κs = let a = c .before .before .before .before .before .before .before .before .before .before .before .before .before .before .before .before .before .args in
     let l = (lent (a .faces .now) (a .kx .now) (a .ky .now) (a .kz .now) (a .order .now) (a .scratch .now) (a .boxes .now) (a .seen .now)) in
-    let none = sym (c .before .before .before .before .before .before .before .before .before .before .refusal .ensures) ∙ zero-is _ (c .before .before .before .before .before .before .before .before .before .if1 .left) in
+    let none = sym (c .before .before .before .before .before .before .before .before .before .before .refusal .ensures) ∙ at-most-zero _ (c .before .before .before .before .before .before .before .before .before .if1 .left) in
     let fit = long (a .nodes .now) (a .tris .now) (a .mirror) l none in
     record {
       some = positive _ (c .before .before .before .before .before .before .before .before .if2 .left);
@@ -229,7 +226,7 @@ returns-3 : tie.Need-returns-3
 unfolding tooShort
 returns-3 c = let a = c .before .before .before .before .before .before .before .before .before .before .before .before .before .before .before .before .before .before .before .before .before .before .before .before .before .before .before .before .before .before .before .before .args in
     let l = (lent (a .faces .now) (a .kx .now) (a .ky .now) (a .kz .now) (a .order .now) (a .scratch .now) (a .boxes .now) (a .seen .now)) in
-    let none = sym (c .before .before .before .before .before .before .before .before .before .before .before .before .before .before .before .before .before .before .before .before .before .before .before .before .before .refusal .ensures) ∙ zero-is _ (c .before .before .before .before .before .before .before .before .before .before .before .before .before .before .before .before .before .before .before .before .before .before .before .before .if1 .left) in
+    let none = sym (c .before .before .before .before .before .before .before .before .before .before .before .before .before .before .before .before .before .before .before .before .before .before .before .before .before .refusal .ensures) ∙ at-most-zero _ (c .before .before .before .before .before .before .before .before .before .before .before .before .before .before .before .before .before .before .before .before .before .before .before .before .if1 .left) in
     let fit = long (a .nodes .now) (a .tris .now) (a .mirror) l none in
     let r = c .before .before .before .before .before .before .before .before .before .before .before .before .before .before .apart in
     record {

@@ -1,9 +1,9 @@
 -- `region_by_depth::node` meets its contract. A node that is there is read whatever the default, and one that is not is the default, the origin. Assumes nothing.
-use Rattle.region_by_depth.proofs.Near.{getD-default}
 use mathlib.Core.Path.{_≡_, sym, ap, _∙_}
 use mathlib.Core.List.{[]}
 use lib.ListN.{getD, List·getD-eq-default}
 use denote.Ref.{now}
+use Rattle.lists.proofs.Laws.{getD-any}
 use Rattle.mesh.specs.Mesh.{point, stored, origin, nodeAt}
 use borrow.Author.Needs.{needs}
 use Rattle.region_by_depth.proofs.node.Statement.{statement}
@@ -21,7 +21,7 @@ point-requires c κs = search needs
 returns : tie.Need-returns
 unfolding nodeAt
 returns c = let args = c .before .before .before .args in
-    c .point .ensures ∙ ap point (getD-default (args .nodes .now) (args .n) [] (stored origin) (c .before .before .if1 .taken))
+    c .point .ensures ∙ ap point (getD-any (args .nodes .now) (args .n) [] (stored origin) (c .before .before .if1 .taken))
 
 new-requires : tie.Need-new-requires
 new-requires c κs = search needs

@@ -2,12 +2,13 @@
 use lib.Ieee.{div, ofBits, neg}
 use mathlib.Core.Path.{_≡_, refl, sym, ap, _∙_}
 use mathlib.Core.List.{[]}
-use Prim.Native.Nat.{ℕ, _≤_, _-_}
+use Prim.Native.Nat.{_≤_, _-_}
 use native.Mathlib.Omega.{arith}
 use native.Mathlib.Nat.{le-antisymm}
 use borrow.Author.Tests.{eq-eqb, ne-eqb}
 use lib.ListN.{length, getD}
 use Rattle.lists.specs.Lists.{foldTo}
+use Rattle.lists.proofs.Bools.{at-most-zero}
 use Rattle.lists.proofs.Laws.{foldTo-more, choose-true, choose-false}
 use Rattle.ieee.specs.Basic.{minOf, maxOf}
 use Rattle.mesh.specs.Mesh.{point}
@@ -15,9 +16,6 @@ use Rattle.region_off_centre.specs.OffCentre.{reachOf, lowest, highest, 
 use Rattle.region_off_centre.specs.declared.Balance.the-variants.{Refused}
 use Rattle.region_off_centre.proofs.off_centre.Statement.{statement}
 use Rattle.region_off_centre.proofs.off_centre.Tie as tie
-
-zero-is : (r : ℕ) → r ≤ 0 → r ≡ 0
-zero-is r h = omega arith
 
 abbrev Inv-loop : tie.InvT-loop
 Inv-loop points mirror r lo₀ hi₀ i₀ lo hi i = (i ≤ length points) × (lo ≡ lowest points mirror i) × (hi ≡ highest points mirror i)
@@ -78,7 +76,7 @@ unfolding offCentreOf
 returns-2 c = let a = c .before .before .before .before .before .args in
     let l = c .before .before .loop in
     let all : l .i ≡ length (a .points .now) = le-antisymm (l .inv .0) (c .before .loop-test .left) in
-    let none : refusalOf (a .points .now) (a .mirror) ≡ 0 = sym (c .before .before .before .before .refusal .ensures) ∙ zero-is _ (c .before .before .before .if1 .left) in
+    let none : refusalOf (a .points .now) (a .mirror) ≡ 0 = sym (c .before .before .before .before .refusal .ensures) ∙ at-most-zero _ (c .before .before .before .if1 .left) in
     c .weigh .ensures
     ∙ (λ i. balanceOf ((l .inv .1 ∙ ap (lowest (a .points .now) (a .mirror)) all) i) ((l .inv .2 ∙ ap (highest (a .points .now) (a .mirror)) all) i))
     ∙ sym (choose-true _ _ _ (eq-eqb _ 0 none))

@@ -1,8 +1,7 @@
 -- `region_passive::passive` meets its contract: a refusal touches nothing, and what is not refused has lists that are long enough. Assumes nothing.
 use mathlib.Core.Path.{_≡_, sym, _∙_}
-use Prim.Native.Nat.{ℕ, _≤_}
-use native.Mathlib.Omega.{arith}
 use denote.Ref.{now}
+use Rattle.lists.proofs.Bools.{at-most-zero}
 use Rattle.region_passive.specs.Passive.{Problem, Lent, refusalOf}
 use Rattle.region_passive.proofs.Fits.{refusal-is, roomy, refused, accepted}
 use Rattle.region_passive.proofs.passive.Statement.{statement}
@@ -19,10 +18,7 @@ is : (c : tie.After-refusal) → c .refusal .result ≡ refusalOf (problem (c .b
 is c = refusal-is (problem (c .before .before .before .before .before .before .before .before .before .before .before .before .before)) (lent (c .before .before .before .before .before .before .before .before .before .before .before .before .before)) (c .before .too-short .result) (c .refusal .result) (c .before .too-short .ensures) (c .refusal .ensures)
 
 none : (c : tie.Else1) → refusalOf (problem (c .before .before .before .before .before .before .before .before .before .before .before .before .before .before)) (lent (c .before .before .before .before .before .before .before .before .before .before .before .before .before .before)) ≡ 0
-none c = sym (is (c .before)) ∙ zero (c .before .refusal .result) (c .if1 .left)
-  where
-    zero : (r : ℕ) → r ≤ 0 → r ≡ 0
-    zero r h = omega arith
+none c = sym (is (c .before)) ∙ at-most-zero (c .before .refusal .result) (c .if1 .left)
 
 too-short-requires : tie.Need-too-short-requires
 too-short-requires c κs = tt
