@@ -7,13 +7,13 @@ use Rattle.c_calls.proofs.answer.Tie as tie
 
 -- ---- places: the core was called; the state and the rest were read from their numbers; the entry
 abbrev called : tie.After-step-numbers → tie.After-answer-core
-called c = c
+called c = c .before .before .before .before .before .before .before .before .before .before .before .before .before .before .before .before .before
 
 abbrev read : tie.After-answer-core → tie.After-heard-of
-read c = c
+read c = c .before .before .before .before .before .before .before .before .before
 
 abbrev start : tie.After-heard-of → tie.Start
-start c = c
+start c = c .before .before .before .before .before .before .before .before .before .before .before .before .before .before .before .before .before .before
 
 -- ---- the needs
 unknown-requires : tie.Need-unknown-requires
@@ -38,28 +38,28 @@ step-numbers-requires : tie.Need-step-numbers-requires
 step-numbers-requires c κs = search needs
 
 same-length : tie.Need-same-length
-same-length c = search needs
+same-length c = c .before .before .before .before .before .before .before .before .before .before .before .before .before .before .before .before .before .answer-core .kept .1 .1 .1 .1 .1 .1 .1 .1 .1 .0
 
 same-length-2 : tie.Need-same-length-2
-same-length-2 c = search needs
+same-length-2 c = c .before .before .before .before .before .before .before .before .before .before .before .before .before .before .before .before .before .answer-core .kept .1 .1 .1 .1 .1 .1 .1 .1 .1 .1 .0
 
 same-length-3 : tie.Need-same-length-3
-same-length-3 c = search needs
+same-length-3 c = c .before .before .before .before .before .before .before .before .before .before .before .before .before .before .before .before .before .answer-core .kept .1 .1 .1 .1 .1 .1 .1 .1 .1 .1 .1 .0
 
 same-length-4 : tie.Need-same-length-4
-same-length-4 c = search needs
+same-length-4 c = c .before .before .before .before .before .before .before .before .before .before .before .before .before .before .before .before .before .answer-core .kept .1 .1 .1 .1 .1 .1 .1 .1 .1 .1 .1 .1 .0
 
 same-length-5 : tie.Need-same-length-5
-same-length-5 c = search needs
+same-length-5 c = c .before .before .before .before .before .before .before .before .before .before .before .before .before .before .before .before .before .answer-core .kept .1 .1 .1 .1 .1 .1 .1 .1 .1 .1 .1 .1 .1 .0
 
 same-length-6 : tie.Need-same-length-6
-same-length-6 c = search needs
+same-length-6 c = c .before .before .before .before .before .before .before .before .before .before .before .before .before .before .before .before .before .answer-core .kept .1 .1 .1 .1 .1 .1 .1 .1 .1 .1 .1 .1 .1 .1 .0
 
 same-length-7 : tie.Need-same-length-7
-same-length-7 c = search needs
+same-length-7 c = c .before .before .before .before .before .before .before .before .before .before .before .before .before .before .before .before .before .answer-core .kept .1 .1 .1 .1 .1 .1 .1 .1 .1 .1 .1 .1 .1 .1 .1 .0
 
 same-length-8 : tie.Need-same-length-8
-same-length-8 c = search needs
+same-length-8 c = c .before .before .before .before .before .before .before .before .before .before .before .before .before .before .before .before .before .answer-core .kept .1 .1 .1 .1 .1 .1 .1 .1 .1 .1 .1 .1 .1 .1 .1 .1 .0
 
 returns-2 : tie.Need-returns-2
 returns-2 c =
