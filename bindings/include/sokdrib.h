@@ -38,7 +38,7 @@
  *       Left: zeroed. By: open, filter_build.
  *   14  a list shorter than needed, or fewer records (room) than rounds allowed. Left: kept; zeroed where a row of the
  *       filter has no room in near or coef. By: open, filter_build, answer, parts of a round, mesh calls but
- *       off_centre; strip::read, program shape.
+ *       off_centre; strip_read::read, program shape.
  *   15  stopped before any record, by the flag or by the solver. Left: over. By: open, answer.
  *   16  energies not one an element. Left: over. By: answer.
  *   17  an energy not finite. Left: over. By: answer.
@@ -46,7 +46,8 @@
  *   19  the solid part's work not above 0. Left: over. By: answer.
  *   20  call out of turn, or a state that no run has ("A run", docs/API.md). Left: kept. By: open, answer.
  *   21  a boundary triangle names a node that is not there. Left: kept. By: passive, asymmetry.
- *   22  the job strip is malformed. Left: kept. By: the calls of strip, program shape: none of C's.
+ *   22  the job strip is malformed. Left: kept. By: the calls of strip_stream and strip_read, program shape: none of
+ *       C's.
  *
  * Where several apply, the first of these is given. open: 20, 1 to 12, 14; row by row 13, 14; last 15. filter_build: the
  * same without 20, 5, 6, 7 and 15. answer: 20, 14; 15 or 18 as the solver said; 16, 17, 19, last 15. Mesh calls (design,

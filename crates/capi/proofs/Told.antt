@@ -6,8 +6,9 @@ use Rattle.oc_kept.specs.declared.Rule.{Rule}
 use Rattle.update.specs.declared.Updated.{Updated}
 use Rattle.update_rates.specs.Rates.{Given, updated}
 use Rattle.update.specs.Update.{Done}
-use Rattle.capi.specs.declared.updates.Update.{Update}
-use Rattle.capi.specs.Numbers.{toldOf, answerOf}
+use Rattle.c_update.specs.declared.Update.{Update}
+use Rattle.c_update.specs.Numbers.{toldOf}
+use Rattle.capi.specs.Numbers.{answerOf}
 
 answer-is : (g : Given) (u : Updated) (design : List Float) → Done g u design → u ≡ answerOf g
 unfolding answerOf

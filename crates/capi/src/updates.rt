@@ -6,62 +6,9 @@ ghost use lib.Dec.{eqb, ltb};
 ghost use Rattle.update_design.specs.Design.{gainsOf};
 ghost use Rattle.update_rates.specs.Rates.{updated};
 ghost use Rattle.capi.specs.Lent.{refusalOf, unless, left, Used};
-ghost use Rattle.capi.specs.Numbers.{ruleOf, endingNumber, endingFirst, endingSecond, toldOf, refusedWith, answerOf};
-use topo::Ending;
-
-// How an update ended, or the number of a refusal and zeros. Ending 0: met, with the kept volume first. 1: cramped, with the lower and the
-// upper rate of its bracket. 2: spent, with the kept volume first.
-#[repr(C)]
-pub struct Update {
-    pub refused: u32,
-    pub ending: u32,
-    pub first: f64,
-    pub second: f64,
-    pub passes: usize,
-}
-
-fn ending_number(e: Ending) -> u32
-    ensures { λ r. ⌜ r ≡ endingNumber e ⌝ }
-{
-    match e {
-        Ending::Met(_) => 0,
-        Ending::Cramped(_, _) => 1,
-        Ending::Spent(_) => 2,
-    }
-}
-
-fn ending_first(e: Ending) -> f64
-    ensures { λ r. ⌜ r ≡ endingFirst e ⌝ }
-{
-    match e {
-        Ending::Met(kept) => kept,
-        Ending::Cramped(low, _) => low,
-        Ending::Spent(kept) => kept,
-    }
-}
-
-fn ending_second(e: Ending) -> f64
-    ensures { λ r. ⌜ r ≡ endingSecond e ⌝ }
-{
-    match e {
-        Ending::Met(_) => 0.0,
-        Ending::Cramped(_, high) => high,
-        Ending::Spent(_) => 0.0,
-    }
-}
-
-fn told(u: update::Updated) -> Update
-    ensures { λ r. ⌜ r ≡ toldOf u ⌝ }
-{
-    let e = u.ending;
-    Update {
-        refused: 0,
-        ending: ending_number(e),
-        first: ending_first(e),
-        second: ending_second(e),
-        passes: u.passes,
-    }
-}
+ghost use Rattle.c_update.specs.Numbers.{toldOf, refusedWith};
+ghost use Rattle.capi.specs.Numbers.{ruleOf, answerOf};
+use c_update::Update;
 
 // One update of the design x, from the slopes dc of the work and dv of the volume: each value moved by at most m, the rate found at which the
 // volume kept is within tolerance of target. The rule and its value are those of sokdrib_kept, with dv for the slope of the volume. design is
@@ -122,5 +69,5 @@ pub extern "C" fn sokdrib_update(
         &mut gain[..n],
         &mut work[..n],
     );
-    told(u)
+    c_update::told(u)
 }

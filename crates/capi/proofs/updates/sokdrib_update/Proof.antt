@@ -5,7 +5,7 @@ use denote.Ref.{now}
 use lib.Seq.{length-take-le}
 use Rattle.lists.proofs.Laws.{neither}
 use Rattle.update_design.specs.Design.{gainsOf}
-use Rattle.capi.specs.Numbers.{refusedWith}
+use Rattle.c_update.specs.Numbers.{refusedWith}
 use Rattle.capi.proofs.Fronts.{accepted, same-count, three-fit, unless-refused, unless-accepted, kept, not-used, written, used}
 use Rattle.capi.proofs.Told.{told-is, told-zero}
 use borrow.Author.Needs.{needs}

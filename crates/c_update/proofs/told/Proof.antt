@@ -1,8 +1,8 @@
 -- `told` meets its contract, number by number. Assumes nothing.
-use Rattle.capi.specs.Numbers.{toldOf}
+use Rattle.c_update.specs.Numbers.{toldOf}
 use borrow.Author.Needs.{needs}
-use Rattle.capi.proofs.updates.told.Statement.{statement}
-use Rattle.capi.proofs.updates.told.Tie as tie
+use Rattle.c_update.proofs.told.Statement.{statement}
+use Rattle.c_update.proofs.told.Tie as tie
 
 ending-number-requires : tie.Need-ending-number-requires
 ending-number-requires c κs = search needs
