@@ -12,9 +12,9 @@ use Rattle.cells.specs.Cells.{axis, inBlock, cellAt, cellOf}
 use Rattle.cells.proofs.Changed.{Grows, grows-over, changed-none, changed-more, changed-same, length-changed}
 use Rattle.cells.proofs.Boxes.{grows-x, grows-y, none-x, none-y, block-box}
 use Rattle.filter.specs.Filter.{middle, lowest, highest, outside, nearCubes, counts}
-use Rattle.filter_meet.specs.Steps.{Ready, Lists, marked, nearer, nearBox, Took}
+use Rattle.filter_look.specs.Steps.{Ready, Lists, marked, nearer, nearBox, Took}
 use Rattle.filter.specs.declared.grid.Grid.{Grid}
-use Rattle.filter_meet.proofs.Looks.{not-first}
+use Rattle.filter_look.proofs.Looks.{not-first}
 
 module _ (gain : ℕ → Float → Float) (mark : ℕ) (stamp₀ : List ℕ) (weight₀ : List Float) where
   pub took-none : (p : ℕ → Bool) (count : ℕ) → ((j : ℕ) → p j ≡ false) → count ≡ marked stamp₀ mark → Took p gain mark stamp₀ weight₀ stamp₀ weight₀ count

@@ -1,5 +1,5 @@
 // The core of an answer: every list but the history, whose record is returned with its place.
-mod lent;
+mod fronts;
 
 ghost use mathlib.Core.Path.{_≡_};
 ghost use lib.ListN.{set};
@@ -111,7 +111,7 @@ pub fn take(
             return unrecorded(room, run_plain::ended(state), Reply::Stop(Stop::Stopped));
         }
         Verdict::Begins => {
-            lent::ask(
+            fronts::ask(
                 state,
                 state.stage,
                 passive,
@@ -126,7 +126,7 @@ pub fn take(
             return unrecorded(room, s, Reply::Round(1));
         }
         Verdict::Solves => {
-            let entry = lent::solve(
+            let entry = fronts::solve(
                 state,
                 energies,
                 volumes,
@@ -165,7 +165,7 @@ pub fn take(
                 }
                 Course::Onward => {
                     let s = run_verdict::counts::onward_state(state, entry);
-                    lent::ask(
+                    fronts::ask(
                         state,
                         s.stage,
                         passive,

@@ -2,7 +2,8 @@
 use mathlib.Core.Path.{_≡_, ap, sym, _∙_}
 use mathlib.Core.List.{[]}
 use lib.ListN.{getD, List·getD-eq-default}
-use Rattle.mesh.specs.Mesh.{point, stored, origin, nodeAt}
+use Rattle.lent.specs.Points.{point, stored}
+use Rattle.mesh.specs.Mesh.{origin, nodeAt}
 use Rattle.mesh.proofs.Laws.{getD-default}
 use borrow.Author.Needs.{needs}
 use Rattle.mesh.proofs.node.Statement.{statement}

@@ -10,7 +10,7 @@ use lib.ListN.{length, getD}
 use Rattle.lists.specs.Lists.{foldTo}
 use Rattle.lists.proofs.Laws.{foldTo-more, choose-true, choose-false}
 use Rattle.ieee.specs.Basic.{minOf, maxOf}
-use Rattle.mesh.specs.Mesh.{point}
+use Rattle.lent.specs.Points.{point}
 use Rattle.region_off_centre.specs.OffCentre.{reachOf, lowest, highest, balanceOf, refusalOf, offCentreOf}
 use Rattle.region_off_centre.specs.declared.Balance.the-variants.{Refused}
 use Rattle.region_off_centre.proofs.off_centre.Statement.{statement}
