@@ -374,8 +374,8 @@ uint32_t sokdrib_design(
     size_t tets_len,
     double *volumes,
     size_t volumes_len,
-    double (*middles)[3],
-    size_t middles_len
+    double (*centroids)[3],
+    size_t centroids_len
 );
 
 /* A box size long on each side, from the origin, in nx, ny and nz cells along the axes, each cell six tetrahedra. Fills the lists, with edges to work
@@ -424,8 +424,8 @@ uint32_t sokdrib_passive(
     size_t marks_len,
     bool *keep,
     size_t keep_len,
-    double (*middles)[3],
-    size_t middles_len,
+    double (*centroids)[3],
+    size_t centroids_len,
     uint64_t (*cells)[3],
     size_t cells_len,
     uint32_t *order,

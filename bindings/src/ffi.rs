@@ -288,8 +288,8 @@ mod library {
             tets_len: usize,
             volumes: *mut f64,
             volumes_len: usize,
-            middles: *mut [f64; 3],
-            middles_len: usize,
+            centroids: *mut [f64; 3],
+            centroids_len: usize,
         ) -> u32;
         pub unsafe fn sokdrib_block(
             nx: usize,
@@ -330,8 +330,8 @@ mod library {
             marks_len: usize,
             keep: *mut bool,
             keep_len: usize,
-            middles: *mut [f64; 3],
-            middles_len: usize,
+            centroids: *mut [f64; 3],
+            centroids_len: usize,
             cells: *mut [u64; 3],
             cells_len: usize,
             order: *mut u32,
@@ -685,13 +685,13 @@ pub fn sokdrib_extent(nodes: &[[f64; 3]]) -> f64 {
 }
 
 /// Each tetrahedron's volume and middle, and 0 or the refusal: 3, 9 or 14, with both lists as before.
-pub fn sokdrib_design(nodes: &[[f64; 3]], tets: &[[u32; 10]], volumes: &mut [f64], middles: &mut [[f64; 3]]) -> u32 {
+pub fn sokdrib_design(nodes: &[[f64; 3]], tets: &[[u32; 10]], volumes: &mut [f64], centroids: &mut [[f64; 3]]) -> u32 {
     // SAFETY: see above.
     unsafe { library::sokdrib_design(
         nodes.as_ptr(), nodes.len(),
         tets.as_ptr(), tets.len(),
         volumes.as_mut_ptr(), volumes.len(),
-        middles.as_mut_ptr(), middles.len()
+        centroids.as_mut_ptr(), centroids.len()
     ) }
 }
 
@@ -740,7 +740,7 @@ pub fn sokdrib_passive(
     depths: &[f64],
     marks: &mut [bool],
     keep: &mut [bool],
-    middles: &mut [[f64; 3]],
+    centroids: &mut [[f64; 3]],
     cells: &mut [[u64; 3]],
     order: &mut [u32],
     place: &mut [u32],
@@ -759,7 +759,7 @@ pub fn sokdrib_passive(
         depths.as_ptr(), depths.len(),
         marks.as_mut_ptr(), marks.len(),
         keep.as_mut_ptr(), keep.len(),
-        middles.as_mut_ptr(), middles.len(),
+        centroids.as_mut_ptr(), centroids.len(),
         cells.as_mut_ptr(), cells.len(),
         order.as_mut_ptr(), order.len(),
         place.as_mut_ptr(), place.len(),

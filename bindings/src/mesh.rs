@@ -27,8 +27,8 @@ pub fn extent(nodes: &[[f64; 3]]) -> f64 {
 }
 
 /// Each tetrahedron's volume and middle. Refused with 3, 9 or 14, and then both lists are as before; of longer ones the rest stays.
-pub fn design(nodes: &[[f64; 3]], tets: &[[u32; 10]], volumes: &mut [f64], middles: &mut [[f64; 3]]) -> Result<(), Refused> {
-    refusal(ffi::sokdrib_design(nodes, tets, volumes, middles))
+pub fn design(nodes: &[[f64; 3]], tets: &[[u32; 10]], volumes: &mut [f64], centroids: &mut [[f64; 3]]) -> Result<(), Refused> {
+    refusal(ffi::sokdrib_design(nodes, tets, volumes, centroids))
 }
 
 /// The lists that [`block`] fills; `surfaces` and `tris` are the boundary's triangles, place by place. `edges` is for its own use, and

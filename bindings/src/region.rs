@@ -25,7 +25,7 @@ pub struct Kept<'a> {
 #[derive(Clone, Debug, Default, PartialEq)]
 pub struct PassiveWork {
     pub keep: Vec<bool>,
-    pub middles: Vec<[f64; 3]>,
+    pub centroids: Vec<[f64; 3]>,
     pub cells: Vec<[u64; 3]>,
     pub order: Vec<u32>,
     pub place: Vec<u32>,
@@ -37,7 +37,7 @@ impl PassiveWork {
     pub fn of(elements: usize, nodes: usize) -> PassiveWork {
         PassiveWork {
             keep: vec![false; nodes],
-            middles: vec![[0.0; 3]; elements],
+            centroids: vec![[0.0; 3]; elements],
             cells: vec![[0; 3]; elements],
             order: vec![0; elements],
             place: vec![0; elements],
@@ -59,7 +59,7 @@ pub fn passive(
     work: &mut PassiveWork,
 ) -> Result<(), Refused> {
     let Mesh { nodes, tets, tris, surfaces } = mesh;
-    let PassiveWork { keep, middles, cells, order, place, first } = work;
+    let PassiveWork { keep, centroids, cells, order, place, first } = work;
     refusal(ffi::sokdrib_passive(
         nodes,
         tets,
@@ -72,7 +72,7 @@ pub fn passive(
         kept.depths,
         marks,
         keep,
-        middles,
+        centroids,
         cells,
         order,
         place,

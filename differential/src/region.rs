@@ -105,7 +105,7 @@ fn misname(g: &mut Gen, tris: &mut [[u32; 6]], nodes: usize, often: usize) {
     }
 }
 
-/// A problem, and how long the lists are that are lent for the marks and to work in: marks, keep, middles, cells, order, place, first.
+/// A problem, and how long the lists are that are lent for the marks and to work in: marks, keep, centroids, cells, order, place, first.
 #[derive(Clone)]
 struct Passive {
     nodes: Vec<[f64; 3]>,
@@ -156,10 +156,10 @@ impl Passive {
     }
 
     fn work(&self) -> PassiveWork {
-        let [_, keep, middles, cells, order, place, first] = self.lent;
+        let [_, keep, centroids, cells, order, place, first] = self.lent;
         PassiveWork {
             keep: vec![true; keep],
-            middles: vec![[7.5; 3]; middles],
+            centroids: vec![[7.5; 3]; centroids],
             cells: vec![[7; 3]; cells],
             order: vec![7; order],
             place: vec![7; place],
@@ -357,17 +357,17 @@ type Marked = (u32, Vec<bool>, Worked);
 #[derive(Clone)]
 struct Worked {
     keep: Vec<bool>,
-    middles: Vec<[f64; 3]>,
+    centroids: Vec<[f64; 3]>,
     cells: Vec<[u64; 3]>,
     numbers: [Vec<u32>; 3],
 }
-fields!(Worked: keep, middles, cells, numbers);
+fields!(Worked: keep, centroids, cells, numbers);
 
 fn worked(k: u32, p: &Passive, w: &PassiveWork) -> Worked {
     let n = p.tets.len();
     Worked {
         keep: left(k, p.nodes.len(), &w.keep),
-        middles: left(k, n, &w.middles),
+        centroids: left(k, n, &w.centroids),
         cells: left(k, n, &w.cells),
         numbers: [left(k, n, &w.order), left(k, n, &w.place), left(k, n + 1, &w.first)],
     }

@@ -4,8 +4,8 @@ use Prim.Native.Nat.{ℕ}
 use lib.Ieee.{Float}
 use Rattle.lists.specs.Lists.{zero64}
 use Rattle.update.specs.declared.Updated.{Updated}
-use Rattle.update.specs.declared.Ending.{Ending}
-use Rattle.update.specs.declared.Ending.the-variants.{Met, Cramped, Spent}
+use Rattle.topo.specs.declared.Ending.{Ending}
+use Rattle.topo.specs.declared.Ending.the-variants.{Met, Cramped, Spent}
 use Rattle.c_update.specs.declared.Update.{Update}
 
 -- how an update ended

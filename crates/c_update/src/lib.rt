@@ -1,7 +1,7 @@
 // How an update ended, as a struct of numbers, for callers that know no enums.
 ghost use mathlib.Core.Path.{_≡_};
 ghost use Rattle.c_update.specs.Numbers.{endingNumber, endingFirst, endingSecond, toldOf};
-use update::Ending;
+use topo::Ending;
 use update::Updated;
 
 // How an update ended, or the number of a refusal and zeros. Ending 0: met, with the kept volume first. 1: cramped, with the lower and the

@@ -5,13 +5,13 @@ use Prim.Native.Nat.{ℕ}
 use lib.Dec.{eqb}
 use lib.Ieee.{Float}
 use Rattle.lists.specs.Lists.{choose}
-use Rattle.oc.specs.declared.seen.Sharpness.{Sharpness}
-use Rattle.oc.specs.declared.seen.Sharpness.the-variants.{Off, At}
-use Rattle.oc.specs.declared.kept.Rule.{Rule}
-use Rattle.oc.specs.declared.kept.Rule.the-variants.{Straight, Sharpened}
+use Rattle.oc_seen.specs.declared.Sharpness.{Sharpness}
+use Rattle.oc_seen.specs.declared.Sharpness.the-variants.{Off, At}
+use Rattle.oc_kept.specs.declared.Rule.{Rule}
+use Rattle.oc_kept.specs.declared.Rule.the-variants.{Straight, Sharpened}
 use Rattle.update_rates.specs.Rates.{Given, updated}
 use Rattle.update.specs.declared.Updated.{Updated}
-use Rattle.update.specs.Update.{endingOf}
+use Rattle.update_rates.specs.Ending.{endingOf}
 
 -- beta counts where the densities are sharpened
 abbrev pub sharpnessOf : Bool → Float → Sharpness

@@ -2,6 +2,7 @@
 ghost use mathlib.Core.Path.{_≡_};
 ghost use mathlib.Core.List.{[], _∷_};
 ghost use Rattle.mesh.specs.Mesh as Mesh;
+ghost use Rattle.region_design.specs.Design.{Designed};
 ghost use Rattle.mesh_block.specs.Block as Block;
 use geom::Vec3;
 use mesh_block::Made;
@@ -45,11 +46,11 @@ pub extern "C" fn sokdrib_design(
     nodes: &[[f64; 3]],
     tets: &[[u32; 10]],
     volumes: &mut [f64],
-    middles: &mut [[f64; 3]],
+    centroids: &mut [[f64; 3]],
 ) -> u32
-    ensures { λ r. ⌜ Mesh.Designed (now (nodes .entry)) (now (tets .entry)) (now (volumes .entry)) (now (volumes .exit)) (now (middles .entry)) (now (middles .exit)) r ⌝ }
+    ensures { λ r. ⌜ Designed (now (nodes .entry)) (now (tets .entry)) (now (volumes .entry)) (now (volumes .exit)) (now (centroids .entry)) (now (centroids .exit)) r ⌝ }
 {
-    mesh::design(nodes, tets, volumes, middles)
+    region_design::design(nodes, tets, volumes, centroids)
 }
 
 // A box size long on each side, from the origin, in nx, ny and nz cells along the axes, each cell six tetrahedra. Fills the lists, with edges to work

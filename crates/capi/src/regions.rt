@@ -25,13 +25,13 @@ pub extern "C" fn sokdrib_passive(
     depths: &[f64],
     marks: &mut [bool],
     keep: &mut [bool],
-    middles: &mut [[f64; 3]],
+    centroids: &mut [[f64; 3]],
     cells: &mut [[u64; 3]],
     order: &mut [u32],
     place: &mut [u32],
     first: &mut [u32],
 ) -> u32
-    ensures { λ r. ⌜ Marked (record { nodes = now (nodes .entry); tets = now (tets .entry); tris = now (tris .entry); surfaces = now (surfaces .entry); held = now (held .entry); loaded = now (loaded .entry); starts = now (starts .entry); kept = now (kept .entry); depths = now (depths .entry) }) (record { marks = now (marks .entry); keep = now (keep .entry); middles = now (middles .entry); cells = now (cells .entry); order = now (order .entry); place = now (place .entry); first = now (first .entry) }) (record { marks = now (marks .exit); keep = now (keep .exit); middles = now (middles .exit); cells = now (cells .exit); order = now (order .exit); place = now (place .exit); first = now (first .exit) }) r ⌝ }
+    ensures { λ r. ⌜ Marked (record { nodes = now (nodes .entry); tets = now (tets .entry); tris = now (tris .entry); surfaces = now (surfaces .entry); held = now (held .entry); loaded = now (loaded .entry); starts = now (starts .entry); kept = now (kept .entry); depths = now (depths .entry) }) (record { marks = now (marks .entry); keep = now (keep .entry); centroids = now (centroids .entry); cells = now (cells .entry); order = now (order .entry); place = now (place .entry); first = now (first .entry) }) (record { marks = now (marks .exit); keep = now (keep .exit); centroids = now (centroids .exit); cells = now (cells .exit); order = now (order .exit); place = now (place .exit); first = now (first .exit) }) r ⌝ }
 {
     region_passive::passive(
         nodes,
@@ -45,7 +45,7 @@ pub extern "C" fn sokdrib_passive(
         depths,
         marks,
         keep,
-        middles,
+        centroids,
         cells,
         order,
         place,

@@ -1,14 +1,16 @@
 -- What a build of the table hands back: rows 1 to 4 and 8 to 14 of 01's "What a refusal hands back". Definitions only.
 use mathlib.Core.Path.{_≡_}
 use mathlib.Core.Bool.{Bool, not, _||_}
-use mathlib.Core.List.{List, [], _∷_}
-use Prim.Native.Nat.{ℕ, _+_, _*_}
-use lib.ListN.{length, getD, drop, replicate}
+use mathlib.Core.List.{List, [], _∷_, _++_}
+use Prim.Native.Nat.{ℕ, suc, _+_, _*_}
+use lib.ListN.{length}
 use lib.Dec.{ltb, eqb}
-use lib.Ieee.{Float, nan}
-use Rattle.lists.specs.Lists.{tabulate, foldTo, anyTo, choose, zero64, overlay}
-use Rattle.filter.specs.Domain.{volumeBad, radiusBad, centroidBad}
-use Rattle.filter.specs.Group.{planesBad, planesSkew}
+use lib.Ieee.{Float}
+use Rattle.lists.specs.Lists.{tabulate, foldTo, choose, zero64}
+use Rattle.lent.specs.Domain.{tooManyElements, pointsBad, volumesBad, radiusBad}
+use Rattle.lent.specs.Refusals.{Test, firstOf}
+use Rattle.lent.specs.Lent.{Outcome, kept, zeroed, done, numberOf, left, Worked, short}
+use Rattle.filter_group.specs.Group.{planesBad, planesSkew}
 use Rattle.filter.specs.Filter.{start, neighbours, coefficients}
 
 -- the lists that a build is lent: the three filter lists, then those it works in
@@ -25,33 +27,20 @@ pub record Lent : Type 0 where
   pub found : List ℕ
   pub bits : List ℕ
 
--- "Kept": all lists as before. "Zeroed": "the three filter lists and the working lists are zero throughout". Or the table is built
-pub data Outcome : Type 0 where
-  kept : ℕ → Outcome
-  zeroed : ℕ → Outcome
-  built : Outcome
-
--- "Answers carry the number alone", here 0 where nothing is refused
-abbrev pub numberOf : Outcome → ℕ
-numberOf (kept k) = k
-numberOf (zeroed k) = k
-numberOf built = 0
-
--- what stands in one of the three lists: z is its zero
-abbrev pub left : {A : Type 0} → Outcome → List A → A → List A → List A
-left (kept k) new z l = l
-left (zeroed k) new z l = replicate (length l) z
-left built new z l = overlay new l
-
--- what stands in a working list of which the first `needed` places are needed: free where the table is built, but for the places past those
-abbrev pub Worked : {A : Type 0} → Outcome → ℕ → A → List A → List A → Type 0
-Worked (kept k) needed z l l' = l' ≡ l
-Worked (zeroed k) needed z l l' = l' ≡ replicate (length l) z
-Worked built needed z l l' = (length l' ≡ length l) × (drop needed l' ≡ drop needed l)
-
--- how many places of `bits` are needed: "working lists as docs/ fixes them"
+-- how many places are needed of the working lists, which are those from `cell` on: "working lists as docs/ fixes them"
 abbrev pub words : ℕ
 words = 1040
+
+abbrev pub workNeeded : ℕ → List ℕ
+workNeeded n = n ∷ n ∷ suc n ∷ n ∷ n ∷ n ∷ n ∷ words ∷ []
+
+-- and with them of `starts`: "one place an element, one more for row starts"; `near` and `coef` are looked at row by row
+abbrev pub needed : ℕ → List ℕ
+needed n = suc n ∷ workNeeded n
+
+abbrev pub lengthsOf : Lent → List ℕ
+lengthsOf l =
+    length (l .starts) ∷ length (l .cell) ∷ length (l .order) ∷ length (l .first) ∷ length (l .sorted) ∷ length (l .stamp) ∷ length (l .weight) ∷ length (l .found) ∷ length (l .bits) ∷ []
 
 module _ (centroids : List (List Float)) (radius : Float) (planes : List (List Float)) where
   -- 13: "at row e (from 0) 4·(e+2) + 12·entries > 536,870,912, entries counted over rows 0 to e"
@@ -74,33 +63,31 @@ module _ (centroids : List (List Float)) (radius : Float) (planes : List (List F
   unfolding foldTo choose rowRefusal
   rowsRefusal nears coefs n = foldTo (λ e r. choose (eqb r 0) (rowRefusal nears coefs e) r) 0 n
 
--- 14 before the rows: "one place an element, one more for row starts", "working lists as docs/ fixes them"
-unfoldable pub shortOf : ℕ → Lent → Bool
-shortOf n l =
-    ltb (length (l .starts)) (n + 1)
-    || ltb (length (l .cell)) n || ltb (length (l .order)) n || ltb (length (l .first)) (n + 1) || ltb (length (l .sorted)) n
-    || ltb (length (l .stamp)) n || ltb (length (l .weight)) n || ltb (length (l .found)) n || ltb (length (l .bits)) words
+-- 1 to 4, of n elements whose lists differ in count or do not
+abbrev pub countTests : Bool → ℕ → List Float → List Test
+countTests differ n volumes = (differ, 1) ∷ (eqb n 0, 2) ∷ (tooManyElements n, 3) ∷ (volumesBad volumes, 4) ∷ []
+
+-- 8 to 12, and after them the first 14
+abbrev pub filterTests : List (List Float) → Float → List (List Float) → Bool → List Test
+filterTests centroids radius planes short =
+    (radiusBad radius, 8) ∷ (pointsBad centroids, 9) ∷ (ltb 3 (length planes), 10) ∷ (planesBad planes, 11) ∷ (planesSkew planes, 12) ∷ (short, 14) ∷ []
+
+module _ (centroids : List (List Float)) (volumes : List Float) (radius : Float) (planes : List (List Float)) where
+  -- what is refused before any row, 0 for none, of lists that are so long: "1 to 13 in order, but the first 14 comes after 12".
+  -- A build has no share, rounds or held marks: no 5, 6, 7
+  unfoldable pub early : List ℕ → ℕ
+  early lengths =
+      firstOf
+      (countTests (not (eqb (length volumes) (length centroids))) (length centroids) volumes
+      ++ filterTests centroids radius planes (short lengths (needed (length centroids))))
 
 module _ (centroids : List (List Float)) (volumes : List Float) (radius : Float) (planes : List (List Float)) (l : Lent) where
-  -- what is refused before any row, 0 for none: "1 to 13 in order, but the first 14 comes after 12". A build has no share, rounds or held marks: no 5, 6, 7
-  unfoldable pub early : ℕ
-  early =
-      choose (not (eqb (length volumes) (length centroids))) 1
-      (choose (eqb (length centroids) 0) 2
-      (choose (ltb 65535 (length centroids)) 3
-      (choose (anyTo (λ k. volumeBad (getD volumes k nan)) (length volumes)) 4
-      (choose (radiusBad radius) 8
-      (choose (anyTo (λ k. centroidBad (getD centroids k [])) (length centroids)) 9
-      (choose (ltb 3 (length planes)) 10
-      (choose (planesBad planes) 11
-      (choose (planesSkew planes) 12
-      (choose (shortOf (length centroids) l) 14 0)))))))))
-
   unfoldable pub outcome : Outcome
-  unfolding choose early rowsRefusal
+  unfolding choose rowsRefusal
   outcome =
+      let before = early centroids volumes radius planes (lengthsOf l) in
       let rows = rowsRefusal centroids radius planes (length (l .near)) (length (l .coef)) (length centroids) in
-      choose (eqb early 0) (choose (eqb rows 0) built (zeroed rows)) (kept early)
+      choose (eqb before 0) (choose (eqb rows 0) done (zeroed rows)) (kept before)
 
   -- what a build answers, and what it leaves in the lists
   pub record Built (answer : ℕ) (l' : Lent) : Type 0 where

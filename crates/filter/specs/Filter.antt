@@ -8,7 +8,8 @@ use Rattle.lists.specs.Lists.{foldTo, foldOver, sumTo, anyTo, choose, zero64}
 use Rattle.geom.specs.Vectors.{least, greatest, dist}
 use Rattle.geom.specs.declared.Vec3.{Vec3}
 use Rattle.cells.specs.Cells.{cellAt, nearCell}
-use Rattle.filter.specs.Group.{point, mirrors, members, imageIn}
+use Rattle.lent.specs.Points.{point}
+use Rattle.filter_group.specs.Group.{mirrors, members, imageIn}
 
 -- the numbers below n that p picks, in rising order
 unfoldable pub chosen : (ℕ → Bool) → ℕ → List ℕ

@@ -2,7 +2,6 @@
 ghost use mathlib.Core.Path.{_≡_};
 ghost use Prim.Native.Nat.{_<_};
 ghost use lib.ListN.{length};
-ghost use Rattle.filter.specs.Group.{point};
 ghost use Rattle.filter.specs.Filter.{lowest, highest, outside};
 ghost use Rattle.filter.specs.Steps.{Settles};
 use geom::Vec3;
@@ -16,25 +15,15 @@ pub struct Grid {
     pub buckets: usize,
 }
 
-pub fn vector(p: [f64; 3]) -> Vec3
-    ensures { λ r. ⌜ r ≡ point p ⌝ }
-{
-    Vec3 {
-        x: p[0],
-        y: p[1],
-        z: p[2],
-    }
-}
-
 // The lower corner of the middles' box.
 pub fn lower(centroids: &[[f64; 3]]) -> Vec3
     requires { ⌜ 0 < length (now centroids) ⌝ }
     ensures { λ r. ⌜ r ≡ lowest (now (centroids .entry)) ⌝ }
 {
-    let mut lo = vector(centroids[0]);
+    let mut lo = lent::point(centroids[0]);
     let mut i = 1usize;
     while i < centroids.len() {
-        lo = lo.min(vector(centroids[i]));
+        lo = lo.min(lent::point(centroids[i]));
         i += 1usize;
     }
     lo
@@ -45,10 +34,10 @@ pub fn upper(centroids: &[[f64; 3]]) -> Vec3
     requires { ⌜ 0 < length (now centroids) ⌝ }
     ensures { λ r. ⌜ r ≡ highest (now (centroids .entry)) ⌝ }
 {
-    let mut hi = vector(centroids[0]);
+    let mut hi = lent::point(centroids[0]);
     let mut i = 1usize;
     while i < centroids.len() {
-        hi = hi.max(vector(centroids[i]));
+        hi = hi.max(lent::point(centroids[i]));
         i += 1usize;
     }
     hi

@@ -13,9 +13,9 @@ use Rattle.ieee_root.specs.Sqrt.{sqrtOf}
 use Rattle.ieee_whole.specs.Whole.{floorAt}
 use Rattle.geom.specs.Vectors.{two64, least, greatest, less, dot, len2, len, dist}
 use Rattle.cells.specs.Cells.{cellAt, nearby, nearCell}
-use Rattle.filter.specs.Group.{imageIn}
+use Rattle.filter_group.specs.Group.{imageIn}
 use Rattle.filter.specs.Filter.{middle, outside, nearCubes, met, columns, start, neighbours, coefficients, lowest, highest}
-use Rattle.filter_meet.proofs.Chosen.{chosen-rising}
+use Rattle.filter_look.proofs.Chosen.{chosen-rising}
 
 -- (0, 0, 0), (1, 0, 0) and (2, 0, 0), volumes 1
 abbrev pub apart : List (List Float)

@@ -18,8 +18,9 @@ use Rattle.filter_table.specs.Table.{Wf, wellOf}
 use Rattle.filter_table.proofs.Laws.{wf-well}
 use Rattle.lists.proofs.Bools.{le-or-lt}
 use Rattle.filter.specs.Filter.{joined, met, columns, neighbours, start, coefficients}
-use Rattle.filter.specs.Build.{Lent, kept, zeroed, built, numberOf, rowsRefusal, early, outcome, Built}
-use Rattle.filter_meet.proofs.Chosen.{chosen-rising}
+use Rattle.filter.specs.Build.{Lent, lengthsOf, rowsRefusal, early, outcome, Built}
+use Rattle.lent.specs.Lent.{kept, zeroed, done, numberOf}
+use Rattle.filter_look.proofs.Chosen.{chosen-rising}
 use Rattle.filter_rows.proofs.Table.{start-more, length-coefficients}
 
 -- ---- places of a list laid over another, and of lists joined
@@ -94,11 +95,11 @@ module _ (centroids : List (List Float)) (radius : Float) (planes : List (List F
 
 -- ---- an answer of 0
 
-accepted-is : (b r : ℕ) → numberOf (choose (eqb b 0) (choose (eqb r 0) built (zeroed r)) (kept b)) ≡ 0 → choose (eqb b 0) (choose (eqb r 0) built (zeroed r)) (kept b) ≡ built
+accepted-is : (b r : ℕ) → numberOf (choose (eqb b 0) (choose (eqb r 0) done (zeroed r)) (kept b)) ≡ 0 → choose (eqb b 0) (choose (eqb r 0) done (zeroed r)) (kept b) ≡ done
 unfolding choose
 accepted-is zero zero h = refl
-accepted-is zero (suc r) h = absurd (let e : suc r ≡ 0 = sym (ap numberOf (choose-false (eqb (suc r) 0) built (zeroed (suc r)) (ne-eqb (suc r) 0 (λ q. omega arith)))) ∙ h in omega arith)
-accepted-is (suc b) r h = absurd (let e : suc b ≡ 0 = sym (ap numberOf (choose-false (eqb (suc b) 0) (choose (eqb r 0) built (zeroed r)) (kept (suc b)) (ne-eqb (suc b) 0 (λ q. omega arith)))) ∙ h in omega arith)
+accepted-is zero (suc r) h = absurd (let e : suc r ≡ 0 = sym (ap numberOf (choose-false (eqb (suc r) 0) done (zeroed (suc r)) (ne-eqb (suc r) 0 (λ q. omega arith)))) ∙ h in omega arith)
+accepted-is (suc b) r h = absurd (let e : suc b ≡ 0 = sym (ap numberOf (choose-false (eqb (suc b) 0) (choose (eqb r 0) done (zeroed r)) (kept (suc b)) (ne-eqb (suc b) 0 (λ q. omega arith)))) ∙ h in omega arith)
 
 module _ (centroids : List (List Float)) (volumes : List Float) (radius : Float) (planes : List (List Float)) (l : Lent) (l' : Lent) (b : Built centroids volumes radius planes l 0 l') where
   abbrev n : ℕ
@@ -108,9 +109,9 @@ module _ (centroids : List (List Float)) (volumes : List Float) (radius : Float)
   begins = start centroids radius planes
 
   -- a build that answers 0 has built the table
-  pub accepted : outcome centroids volumes radius planes l ≡ built
+  pub accepted : outcome centroids volumes radius planes l ≡ done
   unfolding outcome
-  accepted = accepted-is (early centroids volumes radius planes l) (rowsRefusal centroids radius planes (length (l .near)) (length (l .coef)) (length centroids)) (sym (b .number))
+  accepted = accepted-is (early centroids volumes radius planes (lengthsOf l)) (rowsRefusal centroids radius planes (length (l .near)) (length (l .coef)) (length centroids)) (sym (b .number))
 
   starts-are : l' .starts ≡ overlay (tabulate begins (n + 1)) (l .starts)
   starts-are = rw accepted at (b .starts)

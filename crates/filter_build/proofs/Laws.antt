@@ -1,8 +1,8 @@
 -- What each way out of a build comes to. Assumes nothing.
 use mathlib.Core.Path.{_≡_, refl, sym, ap, _∙_}
 use mathlib.Core.Bool.{not}
-use mathlib.Core.List.{List, _++_}
-use Prim.Native.Nat.{ℕ, _+_, _≤_, _<_}
+use mathlib.Core.List.{List, [], _∷_, _++_}
+use Prim.Native.Nat.{ℕ, suc, _+_, _≤_, _<_}
 use native.Mathlib.Omega.{arith}
 use lib.ListN.{length, drop, replicate}
 use lib.Dec.{ltb, eqb}
@@ -12,21 +12,16 @@ use Rattle.lists.specs.Lists.{tabulate, overwrite, choose, zero64, overlay}
 use Rattle.lists.proofs.Bools.{at-most-zero}
 use Rattle.lists.proofs.Laws.{length-tabulate, overwrite-is, choose-true, choose-false, passes-on, neither}
 use Rattle.filter.specs.Filter.{start}
-use Rattle.filter.specs.Build.{Lent, kept, zeroed, built, rowsRefusal, shortOf, early, outcome, Built}
+use Rattle.filter.specs.Build.{Lent, lengthsOf, rowsRefusal, early, outcome, Built}
+use Rattle.lent.specs.Lent.{kept, zeroed, done, short}
 use Rattle.filter_rows.specs.Steps.{Filled, Roomy, Past}
-use Rattle.filter_build.specs.Wiped.{Wiped}
-use Rattle.filter_build.specs.Steps.{shortBy, earlyBy}
+use Rattle.filter_wipe.specs.Wiped.{Wiped}
 
 module _ (centroids : List (List Float)) (volumes : List Float) (radius : Float) (planes : List (List Float)) where
-  pub early-is : (l : Lent) → early centroids volumes radius planes l
-      ≡ earlyBy centroids volumes radius planes (length (l .starts)) (length (l .cell)) (length (l .order)) (length (l .first)) (length (l .sorted)) (length (l .stamp)) (length (l .weight)) (length (l .found)) (length (l .bits))
-  unfolding early shortOf earlyBy shortBy
-  early-is l = refl
-
   -- where nothing is refused before the rows, the lists have room
-  pub roomy : (starts cell order first sorted stamp weight found bits : ℕ) → earlyBy centroids volumes radius planes starts cell order first sorted stamp weight found bits ≡ 0
+  pub roomy : (starts cell order first sorted stamp weight found bits : ℕ) → early centroids volumes radius planes (starts ∷ cell ∷ order ∷ first ∷ sorted ∷ stamp ∷ weight ∷ found ∷ bits ∷ []) ≡ 0
       → Roomy (length centroids) (length volumes) (length planes) starts cell order first sorted stamp weight found bits
-  unfolding earlyBy shortBy
+  unfolding early short
   roomy starts cell order first sorted stamp weight found bits e =
       let n = length centroids in
       let p1 = passes-on (not (eqb (length volumes) n)) 1 _ (omega arith) e in
@@ -39,30 +34,32 @@ module _ (centroids : List (List Float)) (volumes : List Float) (radius : Float)
       let p11 = passes-on _ 11 _ (omega arith) (p10 .1) in
       let p12 = passes-on _ 12 _ (omega arith) (p11 .1) in
       let p14 = passes-on _ 14 0 (omega arith) (p12 .1) in
-      let s9 = neither _ (ltb bits 1040) (p14 .0) in
-      let s8 = neither _ (ltb found n) (s9 .0) in
-      let s7 = neither _ (ltb weight n) (s8 .0) in
-      let s6 = neither _ (ltb stamp n) (s7 .0) in
-      let s5 = neither _ (ltb sorted n) (s6 .0) in
-      let s4 = neither _ (ltb first (n + 1)) (s5 .0) in
-      let s3 = neither _ (ltb order n) (s4 .0) in
-      let s2 = neither (ltb starts (n + 1)) (ltb cell n) (s3 .0) in
+      let s1 = neither (ltb starts (suc n)) _ (p14 .0) in
+      let s2 = neither (ltb cell n) _ (s1 .1) in
+      let s3 = neither (ltb order n) _ (s2 .1) in
+      let s4 = neither (ltb first (suc n)) _ (s3 .1) in
+      let s5 = neither (ltb sorted n) _ (s4 .1) in
+      let s6 = neither (ltb stamp n) _ (s5 .1) in
+      let s7 = neither (ltb weight n) _ (s6 .1) in
+      let s8 = neither (ltb found n) _ (s7 .1) in
+      let s9 = neither (ltb bits 1040) _ (s8 .1) in
       let few : n ≤ 65535 = ltb-false 65535 n (p3 .0) in
-      let begun : n + 1 ≤ starts = ltb-false starts (n + 1) (s2 .0) in
+      let begun : suc n ≤ starts = ltb-false starts (suc n) (s1 .0) in
+      let ends : suc n ≤ first = ltb-false first (suc n) (s4 .0) in
       record {
         some = omega (arith, eqb-false n 0 (p2 .0));
         few = omega arith;
         volumed = eqb-true (length volumes) n (not-false (eqb (length volumes) n) (p1 .0));
         three = ltb-false 3 (length planes) (p10 .0);
         begun = omega arith;
-        cells = ltb-false cell n (s2 .1);
-        orders = ltb-false order n (s3 .1);
-        firsts = ltb-false first (n + 1) (s4 .1);
-        sorteds = ltb-false sorted n (s5 .1);
-        stamps = ltb-false stamp n (s6 .1);
-        weights = ltb-false weight n (s7 .1);
-        founds = ltb-false found n (s8 .1);
-        maps = ltb-false bits 1040 (s9 .1);
+        cells = ltb-false cell n (s2 .0);
+        orders = ltb-false order n (s3 .0);
+        firsts = omega arith;
+        sorteds = ltb-false sorted n (s5 .0);
+        stamps = ltb-false stamp n (s6 .0);
+        weights = ltb-false weight n (s7 .0);
+        founds = ltb-false found n (s8 .0);
+        maps = ltb-false bits 1040 (s9 .0);
       }
 
 -- what is filled by a number that is none is filled by 0
@@ -78,14 +75,14 @@ laid-tabulate f n l h = overwrite-is f n l h ∙ ap (λ (k : ℕ). tabulate f n 
 
 module _ (centroids : List (List Float)) (volumes : List Float) (radius : Float) (planes : List (List Float)) (l : Lent) where
   abbrev before : ℕ
-  before = earlyBy centroids volumes radius planes (length (l .starts)) (length (l .cell)) (length (l .order)) (length (l .first)) (length (l .sorted)) (length (l .stamp)) (length (l .weight)) (length (l .found)) (length (l .bits))
+  before = early centroids volumes radius planes (lengthsOf l)
 
   abbrev rows : ℕ
   rows = rowsRefusal centroids radius planes (length (l .near)) (length (l .coef)) (length centroids)
 
-  outcome-is : outcome centroids volumes radius planes l ≡ choose (eqb before 0) (choose (eqb rows 0) built (zeroed rows)) (kept before)
+  outcome-is : outcome centroids volumes radius planes l ≡ choose (eqb before 0) (choose (eqb rows 0) done (zeroed rows)) (kept before)
   unfolding outcome
-  outcome-is = ap (λ (k : ℕ). choose (eqb k 0) (choose (eqb rows 0) built (zeroed rows)) (kept k)) (early-is centroids volumes radius planes l)
+  outcome-is = refl
 
   -- refused before any row
   pub refuses : (k : ℕ) → k ≡ before → 0 < k → Built centroids volumes radius planes l k l
@@ -112,6 +109,6 @@ module _ (centroids : List (List Float)) (volumes : List Float) (radius : Float)
       → length (l' .stamp) ≡ length (l .stamp) → length (l' .weight) ≡ length (l .weight) → length (l' .found) ≡ length (l .found) → length (l' .bits) ≡ length (l .bits)
       → Built centroids volumes radius planes l 0 l'
   builds l' none long f p cell order first sorted stamp weight found bits =
-      let o : outcome centroids volumes radius planes l ≡ built =
+      let o : outcome centroids volumes radius planes l ≡ done =
       outcome-is ∙ choose-true (eqb before 0) _ _ (eq-eqb before 0 none) ∙ choose-true (eqb rows 0) _ _ (eq-eqb rows 0 (sym (f .numbers))) in
       record { number = rw o refl; starts = rw o (f .begins refl ∙ laid-tabulate (start centroids radius planes) (length centroids + 1) (l .starts) (omega arith)); near = rw o (f .nears refl); coef = rw o (f .coefs refl); cell = rw o (cell, p .cells); order = rw o (order, p .orders); first = rw o (first, p .firsts); sorted = rw o (sorted, p .sorteds); stamp = rw o (stamp, p .stamps); weight = rw o (weight, p .weights); found = rw o (found, p .founds); bits = rw o (bits, p .maps) }

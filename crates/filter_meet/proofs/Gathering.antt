@@ -14,7 +14,7 @@ use Rattle.lists.proofs.Laws.{foldTo-more, any-step}
 use Rattle.geom.specs.declared.Vec3.{Vec3}
 use Rattle.cells.proofs.Changed.{getD-changed}
 use Rattle.filter.specs.Filter.{counts, share, seen}
-use Rattle.filter_meet.specs.Steps.{gained, Took, Gathered}
+use Rattle.filter_look.specs.Steps.{gained, Took, Gathered}
 
 cond-choose : {A : Type 0} (t : Bool) (a b : A) → cond t a b ≡ choose t a b
 unfolding choose

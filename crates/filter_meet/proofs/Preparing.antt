@@ -14,7 +14,7 @@ use Rattle.cells.specs.Filing.{Filed}
 use Rattle.cells.proofs.Fit.{cells-fit}
 use Rattle.filter.specs.Filter.{lowest, highest}
 use Rattle.filter.specs.Steps.{Settles}
-use Rattle.filter_meet.specs.Steps.{Prepared, Ready}
+use Rattle.filter_look.specs.Steps.{Prepared, Ready}
 
 pub prepared : (centroids : List (List Float)) (lo : Vec3) (radius : Float) (cell₀ cell : List (List ℕ)) (order first : List ℕ) (sorted₀ sorted : List (List Float)) (m : ℕ)
     → length cell₀ ≡ length centroids → length sorted₀ ≡ length centroids

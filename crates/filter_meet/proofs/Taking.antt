@@ -13,7 +13,7 @@ use Rattle.cells.specs.Cells.{axis, inBlock, cellAt, cellOf}
 use Rattle.cells.proofs.Changed.{Grows, grows-over, changed-none, changed-more, changed-same, length-changed}
 use Rattle.cells.proofs.Boxes.{grows-x, grows-y, none-x, none-y, block-box}
 use Rattle.filter.specs.Filter.{middle, lowest, highest, outside, nearCubes, counts}
-use Rattle.filter_meet.specs.Steps.{Ready, Lists, marked, nearer, nearBox, Took}
+use Rattle.filter_look.specs.Steps.{Ready, Lists, marked, nearer, nearBox, Took}
 use Rattle.filter.specs.declared.grid.Grid.{Grid}
 
 module _ (gain : ℕ → Float → Float) (mark : ℕ) (stamp₀ : List ℕ) (weight₀ : List Float) where

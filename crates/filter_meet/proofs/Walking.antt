@@ -14,9 +14,9 @@ use Rattle.cells.specs.Cells.{axis, boxCell, inBox}
 use Rattle.cells.specs.Filing.{Spanned}
 use Rattle.cells.proofs.Walks.{Walked, walk-none, walk-hit, walk-miss, walk-done}
 use Rattle.cells.proofs.Boxes.{box-own, box-cell}
-use Rattle.filter.specs.Group.{point}
+use Rattle.lent.specs.Points.{point}
 use Rattle.filter.specs.Filter.{middle}
-use Rattle.filter_meet.specs.Steps.{Ready, Lists, Looked, seenAt, leftOver, nearer, gained, nearBox, marked, Took}
+use Rattle.filter_look.specs.Steps.{Ready, Lists, Looked, seenAt, leftOver, nearer, gained, nearBox, marked, Took}
 use Rattle.filter.specs.declared.grid.Grid.{Grid}
 
 -- a list after a look, whichever way it went

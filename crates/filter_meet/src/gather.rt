@@ -2,11 +2,11 @@
 ghost use mathlib.Core.Path.{_≡_};
 ghost use Prim.Native.Nat.{_^_, _≤_, _<_};
 ghost use lib.ListN.{length};
-ghost use Rattle.filter.specs.Group.{mirrors, members};
-ghost use Rattle.filter.specs.Planes.{mirrorsOf};
-ghost use Rattle.filter_meet.specs.Steps.{Ready, Lists, Gathered};
+ghost use Rattle.filter_group.specs.Group.{mirrors, members};
+ghost use Rattle.filter_group.specs.Planes.{mirrorsOf};
+ghost use Rattle.filter_look.specs.Steps.{Ready, Lists, Gathered};
 use filter::grid::Grid;
-use filter::group::Planes;
+use filter_group::Planes;
 
 // How many members the group of so many planes has.
 fn members_of(count: usize) -> usize
@@ -48,11 +48,11 @@ pub fn gather(
     ensures { λ _. ⌜ Gathered (now (centroids .entry)) (g .radius) (now (planes .entry)) e mark (members (now (planes .entry))) (now (stamp .exit)) (now (weight .exit)) ⌝ }
 {
     let end = members_of(planes.len());
-    let middle = filter::grid::vector(centroids[e]);
+    let middle = lent::point(centroids[e]);
     let mut count = 0usize;
     let mut k = 0usize;
     while k < end {
-        let q = filter::group::image_of(k, held, middle);
+        let q = filter_group::image_of(k, held, middle);
         count = crate::walk::around(
             g,
             q,

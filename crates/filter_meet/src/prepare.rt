@@ -2,7 +2,7 @@
 ghost use mathlib.Core.Path.{_≡_};
 ghost use Prim.Native.Nat.{_+_, _<_};
 ghost use lib.ListN.{length};
-ghost use Rattle.filter_meet.specs.Steps.{Prepared};
+ghost use Rattle.filter_look.specs.Steps.{Prepared};
 use geom::Vec3;
 
 // Files the elements and tells the number of buckets. `place` is to work in.

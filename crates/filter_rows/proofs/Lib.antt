@@ -1,5 +1,2 @@
--- The laws that the functions' proofs cite: `Writes` of the writing of a row, `Room` of 13 and 14, `OneRow` of a row, `Table` of all rows.
-pub mod Writes
-pub mod Room
-pub mod OneRow
+-- `Table` has the laws of all rows, which the functions' proofs cite.
 pub mod Table

@@ -15,8 +15,10 @@ use Rattle.lists.proofs.Laws.{choose-true, choose-false, length-tabulate, overw
 use Rattle.filter.specs.Filter.{joined, columns, neighbours, start, coefficient, coefficients}
 use Rattle.filter.specs.Build.{tooBig, tooShort, rowRefusal, rowsRefusal}
 use Rattle.filter.specs.Steps.{roomRefusal}
-use Rattle.filter_rows.specs.Steps.{written, Rowed, Filled}
-use Rattle.filter_rows.proofs.Room.{has-room}
+use Rattle.filter_entries.specs.Entries.{written}
+use Rattle.filter_row.specs.Row.{Rowed}
+use Rattle.filter_rows.specs.Steps.{Filled}
+use Rattle.filter_row.proofs.Room.{has-room}
 
 -- ---- what is written from the end of what was laid is laid after it
 

@@ -28,7 +28,7 @@ pub fn fill_table(
     let lo = filter::grid::lower(centroids);
     let hi = filter::grid::upper(centroids);
     let limit = filter::grid::limit_of(radius);
-    let held = filter::group::unit_planes(planes);
+    let held = filter_group::unit_planes(planes);
     let buckets = filter_meet::prepare::file_all(
         centroids,
         lo,

@@ -2,12 +2,13 @@
 ghost use mathlib.Core.Path.{_≡_};
 ghost use Prim.Native.Nat.{_+_, _≤_, _<_};
 ghost use lib.ListN.{length};
-ghost use Rattle.filter.specs.Group.{mirrors};
-ghost use Rattle.filter.specs.Planes.{mirrorsOf};
-ghost use Rattle.filter_meet.specs.Steps.{Ready};
-ghost use Rattle.filter_rows.specs.Steps.{Clean, Filled};
+ghost use Rattle.filter_group.specs.Group.{mirrors};
+ghost use Rattle.filter_group.specs.Planes.{mirrorsOf};
+ghost use Rattle.filter_look.specs.Steps.{Ready};
+ghost use Rattle.filter_row.specs.Row.{Clean};
+ghost use Rattle.filter_rows.specs.Steps.{Filled};
 use filter::grid::Grid;
-use filter::group::Planes;
+use filter_group::Planes;
 
 // The number of the first row that is refused, or 0.
 pub fn all_rows(
@@ -37,7 +38,7 @@ pub fn all_rows(
     let mut at = 0usize;
     let mut e = 0usize;
     while e < n {
-        let r = crate::row::build_row(
+        let r = filter_row::build_row(
             g,
             held,
             e,

@@ -1,24 +1,15 @@
--- mesh.rs: `volume`, `corner_volume`, `centroid`, `extent`; region.rs: `design`. Each operation is rounded once, in the Rust's order. Definitions only.
+-- mesh.rs: `volume`, `corner_volume`, `centroid`, `extent`. Each operation is rounded once, in the Rust's order. Definitions only.
 use Prim.Native.Nat.{ℕ}
-use mathlib.Core.Path.{_≡_}
-use mathlib.Core.Bool.{Bool, not, _||_}
-use mathlib.Core.List.{List, [], _∷_}
+use mathlib.Core.List.{List, []}
 use lib.ListN.{length, getD}
-use lib.Dec.{ltb, eqb}
-use lib.Ieee.{Float, nan, binary64, add, sub, mul, div, le, ofBits}
-use Rattle.lists.specs.Lists.{overwrite, foldTo, anyTo, choose, zero64}
+use lib.Dec.{eqb}
+use lib.Ieee.{Float, nan, binary64, add, sub, mul, div, ofBits}
+use Rattle.lists.specs.Lists.{foldTo, choose, zero64}
 use Rattle.ieee.specs.Basic.{absOf, one64}
 use Rattle.geom.specs.Vectors.{vec, plus, less, scaled, dot, cross, least, greatest, len}
 use Rattle.geom.specs.declared.Vec3.{Vec3}
+use Rattle.lent.specs.Points.{point, stored}
 use Rattle.mesh.specs.declared.Ten.{Ten}
-
--- a lent point: x, y, z
-abbrev pub point : List Float → Vec3
-point p = vec (getD p 0 nan) (getD p 1 nan) (getD p 2 nan)
-
--- a point as it is stored
-abbrev pub stored : Vec3 → List Float
-stored v = v .x ∷ v .y ∷ v .z ∷ []
 
 abbrev pub origin : Vec3
 origin = vec zero64 zero64 zero64
@@ -110,35 +101,3 @@ highest nodes n = foldTo (λ k hi. greatest hi (point (getD nodes k []))) (point
 -- `extent`: the box's size from corner to corner, 0.0 with no nodes
 unfoldable pub extentOf : List (List Float) → Float
 extentOf nodes = choose (eqb (length nodes) 0) zero64 (len (less (highest nodes (length nodes)) (lowest nodes (length nodes))))
-
--- 1,000,000
-abbrev pub million64 : Float
-million64 = ofBits binary64 0x412e_8480_0000_0000
-
--- 01: "Coordinates of nodes, middles and planes are finite, magnitude at most 1,000,000 mm": v is no such coordinate
-abbrev pub outsideDomain : Float → Bool
-outsideDomain v = not (le (absOf v) million64)
-
--- 9: "middle or node outside the domain"
-unfoldable pub nodeOutside : Vec3 → Bool
-nodeOutside p = outsideDomain (p .x) || outsideDomain (p .y) || outsideDomain (p .z)
-
-unfoldable pub nodesOutside : List (List Float) → Bool
-nodesOutside nodes = anyTo (λ k. nodeOutside (point (getD nodes k []))) (length nodes)
-
--- 3: "At most 65,535 elements or triangles and 1,048,576 nodes"
-abbrev pub tooMany : ℕ → ℕ → Bool
-tooMany elements nodes = ltb 65535 elements || ltb 1048576 nodes
-
--- `design`'s refusal, 0 where there is none: 3, 9, 14 in this order, with lists of v and m places for volumes and middles
-unfoldable pub designRefusal : List (List Float) → List (List ℕ) → ℕ → ℕ → ℕ
-designRefusal nodes tets v m =
-    choose (tooMany (length tets) (length nodes)) 3
-    (choose (nodesOutside nodes) 9
-    (choose (ltb v (length tets) || ltb m (length tets)) 14 0))
-
--- what `design` leaves: each tetrahedron's volume and middle, one place an element; on a refusal the lists as they were lent
-pub record Designed (nodes : List (List Float)) (tets : List (List ℕ)) (volumes volumes′ : List Float) (middles middles′ : List (List Float)) (r : ℕ) : Type 0 where
-  pub refusal : r ≡ designRefusal nodes tets (length volumes) (length middles)
-  pub volumes-are : volumes′ ≡ choose (eqb r 0) (overwrite (λ k. volumeOf nodes (getD tets k [])) (length tets) volumes) volumes
-  pub middles-are : middles′ ≡ choose (eqb r 0) (overwrite (λ k. stored (centroidOf nodes (getD tets k []))) (length tets) middles) middles

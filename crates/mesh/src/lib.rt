@@ -1,19 +1,8 @@
-// A mesh of ten-node tetrahedra: volumes, middles and size (mesh.rs), and what the optimiser works on (region.rs, `design`).
+// A mesh of ten-node tetrahedra: volumes, middles and size (mesh.rs).
 ghost use mathlib.Core.Path.{_≡_};
 ghost use Rattle.mesh.specs.Mesh as Mesh;
 ghost use Rattle.mesh.specs.Steps as Steps;
 use geom::Vec3;
-
-// A lent point. Internal: for `mesh_block` too.
-pub fn point(p: [f64; 3]) -> Vec3
-    ensures { λ r. ⌜ r ≡ Mesh.point p ⌝ }
-{
-    Vec3 {
-        x: p[0],
-        y: p[1],
-        z: p[2],
-    }
-}
 
 fn origin() -> Vec3
     ensures { λ r. ⌜ r ≡ Mesh.origin ⌝ }
@@ -27,7 +16,7 @@ fn node(nodes: &[[f64; 3]], n: u32) -> Vec3
 {
     let i = n as usize;
     if i < nodes.len() {
-        return point(nodes[i]);
+        return lent::point(nodes[i]);
     }
     origin()
 }
@@ -65,7 +54,7 @@ fn moves(c: Vec3, m1: Vec3, m2: Vec3, m3: Vec3) -> Vec3
     c.add(m1).add(m2).add(m3)
 }
 
-// dot(d1 - d0, cross(d2 - d0, d3 - d0)). Internal: for `mesh_block` too.
+// dot(d1 - d0, cross(d2 - d0, d3 - d0)). Internal: for `mesh_lattice` too.
 pub fn triple(d0: Vec3, d1: Vec3, d2: Vec3, d3: Vec3) -> f64
     ensures { λ r. ⌜ r ≡ Mesh.triple d0 d1 d2 d3 ⌝ }
 {
@@ -187,72 +176,14 @@ pub fn extent(nodes: &[[f64; 3]]) -> f64
     if nodes.len() == 0 {
         return 0.0;
     }
-    let mut lo = point(nodes[0]);
+    let mut lo = lent::point(nodes[0]);
     let mut hi = lo;
     let mut i = 0;
     while i < nodes.len() {
-        let p = point(nodes[i]);
+        let p = lent::point(nodes[i]);
         lo = lo.min(p);
         hi = hi.max(p);
         i += 1;
     }
     hi.sub(lo).len()
-}
-
-// Whether a node lies outside the domain. Internal: for `mesh_block` too.
-pub fn outside(p: Vec3) -> bool
-    ensures { λ r. ⌜ r ≡ Mesh.nodeOutside p ⌝ }
-{
-    !(ieee::abs(p.x) <= 1000000.0) | !(ieee::abs(p.y) <= 1000000.0) | !(ieee::abs(p.z) <= 1000000.0)
-}
-
-// Whether any node does. Internal: for `region_checks` too.
-pub fn any_outside(nodes: &[[f64; 3]]) -> bool
-    ensures { λ r. ⌜ r ≡ Mesh.nodesOutside (now (nodes .entry)) ⌝ }
-{
-    let mut found = false;
-    let mut i = 0;
-    while i < nodes.len() {
-        found = found | outside(point(nodes[i]));
-        i += 1;
-    }
-    found
-}
-
-fn refusal(nodes: &[[f64; 3]], tets: &[[u32; 10]], volumes: usize, middles: usize) -> u32
-    ensures { λ r. ⌜ r ≡ Mesh.designRefusal (now (nodes .entry)) (now (tets .entry)) volumes middles ⌝ }
-{
-    if (65535 < tets.len()) | (1048576 < nodes.len()) {
-        return 3;
-    }
-    if any_outside(nodes) {
-        return 9;
-    }
-    if (volumes < tets.len()) | (middles < tets.len()) {
-        return 14;
-    }
-    0
-}
-
-// Fills in each tetrahedron's volume and middle, and gives 0 or the refusal. Marks are the caller's own list and stay as they are.
-pub fn design(
-    nodes: &[[f64; 3]],
-    tets: &[[u32; 10]],
-    volumes: &mut [f64],
-    middles: &mut [[f64; 3]],
-) -> u32
-    ensures { λ r. ⌜ Mesh.Designed (now (nodes .entry)) (now (tets .entry)) (now (volumes .entry)) (now (volumes .exit)) (now (middles .entry)) (now (middles .exit)) r ⌝ }
-{
-    let r = refusal(nodes, tets, volumes.len(), middles.len());
-    if r > 0 {
-        return r;
-    }
-    let mut i = 0;
-    while i < tets.len() {
-        volumes[i] = volume(nodes, tets[i]);
-        let m = centroid(nodes, tets[i]);
-        middles[i] = [m.x, m.y, m.z];
-        i += 1;
-    }
-    0
 }

@@ -1,4 +1,2 @@
--- `Faces` has a tetrahedron's triangles. `Placed` has that the code stores them. `Refusals` has what holds where nothing is refused.
-mod Faces
-mod Placed
+-- `Refusals` has what holds where nothing is refused.
 pub mod Refusals

@@ -7,10 +7,12 @@ use borrow.Author.Tests.{ltb-false}
 use lib.Dec.{ltb}
 use lib.ListN.{length}
 use Rattle.lists.proofs.Laws.{passes-on, neither}
-use Rattle.mesh.specs.Mesh.{nodeOutside}
+use Rattle.lent.specs.Points.{stored}
+use Rattle.lent.specs.Domain.{pointBad}
 use Rattle.mesh_lattice.specs.declared.Grid.{Grid}
 use Rattle.mesh_lattice.specs.Lattice.{tetsIn, nodesIn, slotsIn}
-use Rattle.mesh_block.specs.Block.{trianglesIn, tooMany, refusalOf}
+use Rattle.mesh_triangles.specs.Triangles.{trianglesIn}
+use Rattle.mesh_block.specs.Block.{tooMany, refusalOf}
 
 pub or-second : (a b : Bool) → a ≡ false → (a || b) ≡ b
 or-second a b e = rw e
@@ -30,7 +32,7 @@ accepted g n t s r w e =
     let a = passes-on (tooMany g) 3 _ (omega arith) e in
     let many = neither (ltb 65535 (tetsIn g)) (ltb 1048576 (nodesIn g) || ltb 65535 m) (a .0) in
     let many2 = neither (ltb 1048576 (nodesIn g)) (ltb 65535 m) (many .1) in
-    let b = passes-on (nodeOutside (g .size)) 9 _ (omega arith) (a .1) in
+    let b = passes-on (pointBad (stored (g .size))) 9 _ (omega arith) (a .1) in
     let c = passes-on (ltb n (nodesIn g) || (ltb t (tetsIn g) || (ltb s m || (ltb r m || ltb w (slotsIn g))))) 14 0 (omega arith) (b .1) in
     let short = neither (ltb n (nodesIn g)) (ltb t (tetsIn g) || (ltb s m || (ltb r m || ltb w (slotsIn g)))) (c .0) in
     let short2 = neither (ltb t (tetsIn g)) (ltb s m || (ltb r m || ltb w (slotsIn g))) (short .1) in

@@ -1,3 +1,2 @@
--- `Block` has what `block` makes; `Steps` has what the code's steps promise each other, which no caller must believe.
+-- `Block` has the block of tetrahedra: what the call refuses, gives and leaves.
 pub mod Block
-pub mod Steps

@@ -3,11 +3,9 @@ use mathlib.Core.Path.{_≡_, sym, _∙_}
 use mathlib.Core.List.{List}
 use Prim.Native.Nat.{ℕ}
 use native.Mathlib.Omega.{arith}
-use borrow.Author.Tests.{eq-eqb}
 use lib.ListN.{length}
-use lib.Dec.{eqb}
 use lib.Ieee.{Float}
-use Rattle.lists.proofs.Laws.{choose-true}
+use Rattle.lent.proofs.Lent.{unless-accepted}
 use Rattle.geom.specs.declared.Vec3.{Vec3}
 use Rattle.mesh_lattice.specs.declared.Grid.{Grid}
 use Rattle.mesh_lattice.specs.Bounds.{Positive}
@@ -21,7 +19,7 @@ made-nodes : (g : Grid) → Positive g → {nodes nodes′ : List (List Float)} 
     → Built g nodes nodes′ tets tets′ surfaces surfaces′ tris tris′ edges edges′ r → r .refusal ≡ 0 → NodesMade g (length nodes) r
 made-nodes g p {nodes} {nodes′} {tets} {tets′} {tris} {tris′} {surfaces} {surfaces′} {edges} {edges′} {r} b z =
     let a = accepted g (length nodes) (length tets) (length surfaces) (length tris) (length edges) (sym (b .refusal) ∙ z) in
-    let n = b .node-count ∙ choose-true (eqb (r .refusal) 0) _ _ (eq-eqb (r .refusal) 0 z) ∙ node-count g p in
+    let n = b .node-count ∙ sym (unless-accepted (r .refusal) _ 0 z) ∙ node-count g p in
     record { count = n; few = omega (arith, n, a .few-nodes); fit = omega (arith, n, a .nodes) }
 
 -- "Cells of 0 count as 1."

@@ -12,7 +12,7 @@ use lib.Ieee.{Float}
 use Rattle.lists.specs.Lists.{choose, overwrite}
 use Rattle.lists.proofs.Laws.{choose-true, choose-false, overwrite-same, getD-overwrite-below, overwrite-set}
 use Rattle.geom.specs.Vectors.{plus, scaled}
-use Rattle.mesh.specs.Mesh.{stored, point}
+use Rattle.lent.specs.Points.{stored, point}
 use Rattle.mesh_lattice.specs.declared.Grid.{Grid}
 use Rattle.mesh_lattice.specs.Lattice.{Edge, half64, cornersIn, slotsIn, cornerPlace, middlePlace, placeIn, metBefore, meet, meetAll, nodeWith}
 use Rattle.mesh_lattice.specs.Filing.{indexIn, strides, slotOf, Filing, between, looked, lookedAll}

@@ -9,7 +9,7 @@ use lib.Ieee.{Float}
 use Rattle.lists.specs.Lists.{choose, overwrite}
 use Rattle.geom.specs.Vectors.{plus, scaled}
 use Rattle.geom.specs.declared.Vec3.{Vec3}
-use Rattle.mesh.specs.Mesh.{point, stored}
+use Rattle.lent.specs.Points.{point, stored}
 use Rattle.mesh_lattice.specs.declared.Grid.{Grid}
 use Rattle.mesh_lattice.specs.declared.Found.{Found}
 use Rattle.mesh_lattice.specs.declared.Six.{Six}

@@ -11,7 +11,8 @@ use Rattle.lists.specs.Lists.{foldTo, choose, zero64}
 use Rattle.ieee.specs.Basic.{whole64}
 use Rattle.geom.specs.Vectors.{vec, plus, scaled}
 use Rattle.geom.specs.declared.Vec3.{Vec3}
-use Rattle.mesh.specs.Mesh.{stored, triple}
+use Rattle.lent.specs.Points.{stored}
+use Rattle.mesh.specs.Mesh.{triple}
 use Rattle.mesh_lattice.specs.declared.Grid.{Grid}
 use Rattle.mesh_lattice.specs.declared.Corner.{Corner}
 use Rattle.mesh_lattice.specs.declared.Four.{Four}

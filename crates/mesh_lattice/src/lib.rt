@@ -4,7 +4,7 @@ ghost use Prim.Native.Nat.{_+_, _≤_, _<_, max};
 ghost use mathlib.Core.List.{[]};
 ghost use lib.ListN.{length, set};
 ghost use Rattle.lists.specs.Lists.{overwrite};
-ghost use Rattle.mesh.specs.Mesh.{stored};
+ghost use Rattle.lent.specs.Points.{stored};
 ghost use Rattle.mesh_lattice.specs.Lattice as Lattice;
 ghost use Rattle.mesh_lattice.specs.Bounds as Bounds;
 ghost use Rattle.mesh_lattice.specs.Filing as Filing;
@@ -209,8 +209,8 @@ fn middle(nodes: &[[f64; 3]], lo: usize, hi: usize) -> Vec3
     requires { ⌜ (lo < length (now nodes)) × (hi < length (now nodes)) ⌝ }
     ensures { λ r. ⌜ r ≡ Filing.between (now (nodes .entry)) (lo, hi) ⌝ }
 {
-    mesh::point(nodes[lo])
-        .add(mesh::point(nodes[hi]))
+    lent::point(nodes[lo])
+        .add(lent::point(nodes[hi]))
         .scale(0.5)
 }
 

@@ -8,7 +8,7 @@ use Rattle.ieee_whole.specs.Whole as Whole
 use Rattle.ieee_root.specs.Sqrt as Sqrt
 use Rattle.geom.specs.Vectors as Vectors
 use Rattle.cells.specs.Cells as Cells
-use Rattle.filter.specs.Group as Group
+use Rattle.filter_group.specs.Group as Group
 use Rattle.filter.specs.Filter as Filter
 use Rattle.oc_start.specs.Start as Start
 use Rattle.run_plain.specs.Formulas as Formulas

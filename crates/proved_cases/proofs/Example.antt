@@ -9,7 +9,8 @@ use Rattle.ieee_root.specs.Sqrt as Sqrt
 use Rattle.geom.specs.Vectors as Vectors
 use Rattle.topo.specs.Levels as Levels
 use Rattle.cells.specs.Cells as Cells
-use Rattle.filter.specs.Group as Group
+use Rattle.lent.specs.Lent as Left
+use Rattle.filter_group.specs.Group as Group
 use Rattle.filter.specs.Filter as Filter
 use Rattle.filter.specs.Build as Build
 use Rattle.filter_table.specs.Table as Table
@@ -18,6 +19,7 @@ use Rattle.oc_seen.specs.Seen as Seen
 use Rattle.oc_slopes.specs.Slopes as Slopes
 use Rattle.oc_record.specs.Record as Record
 use Rattle.oc_kept.specs.Kept as Kept
+use Rattle.update_value.specs.Value as Value
 use Rattle.update_value.specs.Value as Value
 use Rattle.update_design.specs.Design as Design
 use Rattle.update_rates.specs.Rates as Rates
@@ -43,7 +45,7 @@ opens = refl
 
 -- the work of the solid part, and what each call shows
 run-shown : (Plain.runFrom (Plain.plainStart Example.job) Example.answers .solidWork ≡ Basic.one64) × (Plain.plainRun Example.job Example.answers ≡ Example.shownRun)
-unfolding Plain.plainRun Opening.entryOf Opening.firstRefusal Lists.choose Lists.anyTo Ieee.lt Ieee.ofBits Ieee.le Ieee.mul Formulas.sumOf Lists.sumTo Ieee.add Start.solidVolume Ieee.sub Basic.absOf Group.planesBad Group.planesSkew Lent.openShort Lent.runShort Lent.short Opening.tableRefusal Build.rowsRefusal Group.imageIn Vectors.least Basic.minOf Ieee.isNan Vectors.greatest Basic.maxOf Cells.nearby Whole.floorAt Ieee.div Vectors.len Sqrt.sqrtOf Vectors.len2 Vectors.dot Vectors.less Formulas.ones Plain.plainFrom Lists.tabulate Opening.startOf Start.startDesign Plain.answered Plain.judged Plain.checksOf Lent.answerShort Example.solvedBy Opening.nearOf Formulas.notFinite Basic.isFinite Energies.energyOf Energies.energiesOf Levels.modulusOf Ieee.ofInt Levels.levelOf Whole.roundHalfAway Basic.clampOf Formulas.idle Record.complianceOf Formulas.see Seen.seenDensity Seen.densities Opening.caseOf Seen.elementDensity Seen.sharpened Table.applied Table.rowSum Lists.sumOver Table.rowEnd Opening.startsOf Opening.coefOf Filter.coefficients Table.product Plain.firstStop Plain.sharpest Formulas.small Formulas.recordAt Record.changeOf Formulas.updateAt Rates.updated Rates.whileTo Rates.raisedAll Rates.raises Rates.first Rates.reckoned Kept.keptOf Record.dot Slopes.straightSlope Table.backed Start.freeVolumes Table.rowShare Table.addTo Rates.trial Design.designAt Value.nextOf Value.limited Value.grown Design.gainsOf Slopes.workSlope Value.gainOf Slopes.workByDensity Slopes.elementWork Seen.seenSlope Seen.slopes Seen.elementSlope Seen.sharpenedSlope Rates.halves Rates.middle Rates.firstRate Design.mostOf Rates.halved Plain.steadyRun Plain.levelWith Record.fractionOf Record.greyOf Plain.runFrom Filter.neighbours Filter.start
+unfolding Plain.plainRun Opening.entryOf Opening.firstRefusal Lists.choose Lists.anyTo Ieee.lt Ieee.ofBits Ieee.le Ieee.mul Formulas.sumOf Lists.sumTo Ieee.add Start.solidVolume Ieee.sub Basic.absOf Group.planesBad Group.planesSkew Lent.openShort Lent.runShort Left.short Opening.tableRefusal Build.rowsRefusal Group.imageIn Vectors.least Basic.minOf Ieee.isNan Vectors.greatest Basic.maxOf Cells.nearby Whole.floorAt Ieee.div Vectors.len Sqrt.sqrtOf Vectors.len2 Vectors.dot Vectors.less Formulas.ones Plain.plainFrom Lists.tabulate Opening.startOf Start.startDesign Plain.answered Plain.judged Plain.checksOf Lent.answerShort Example.solvedBy Opening.nearOf Formulas.notFinite Basic.isFinite Energies.energyOf Energies.energiesOf Levels.modulusOf Ieee.ofInt Levels.levelOf Whole.roundHalfAway Basic.clampOf Formulas.idle Record.complianceOf Formulas.see Seen.seenDensity Seen.densities Opening.caseOf Seen.elementDensity Seen.sharpened Table.applied Table.rowSum Lists.sumOver Table.rowEnd Opening.startsOf Opening.coefOf Filter.coefficients Table.product Plain.firstStop Plain.sharpest Formulas.small Formulas.recordAt Record.changeOf Formulas.updateAt Rates.updated Rates.whileTo Rates.raisedAll Rates.raises Rates.first Rates.reckoned Kept.keptOf Record.dot Slopes.straightSlope Table.backed Start.freeVolumes Table.rowShare Table.addTo Rates.trial Design.designAt Value.nextOf Value.limited Value.grown Design.gainsOf Slopes.workSlope Value.gainOf Slopes.workByDensity Slopes.elementWork Seen.seenSlope Seen.slopes Seen.elementSlope Seen.sharpenedSlope Rates.halves Rates.middle Rates.firstRate Design.mostOf Rates.halved Plain.steadyRun Plain.levelWith Record.fractionOf Record.greyOf Plain.runFrom Filter.neighbours Filter.start
 run-shown = (refl, refl)
 
 printed : Report.textOf (Report.ran Basic.one64 (Example.firstRound ∷ []) Limit Example.firstAsked) ≡ Report.ascii Example.lines

@@ -1,18 +1,17 @@
--- The lent lists: long enough where nothing is refused, and what is left of them. Assumes nothing.
-use mathlib.Core.Path.{_≡_, refl, _∙_}
+-- The lent lists are long enough where nothing is refused, and what is answered. Assumes nothing.
+use mathlib.Core.Path.{_≡_, refl}
 use mathlib.Core.Bool.{false}
-use mathlib.Core.List.{List, _++_}
+use mathlib.Core.List.{List}
 use Prim.Native.Nat.{ℕ, zero, suc, _≤_, _<_}
 use native.Mathlib.Omega.{arith}
 use borrow.Author.Tests.{ltb-false}
 use lib.Dec.{ltb}
-use lib.ListN.{length, take, drop}
-use lib.Seq.{length-front, length-take-le, drop-at}
+use lib.ListN.{length}
 use lib.Ieee.{Float}
 use Rattle.lists.proofs.Laws.{passes-on, neither}
 use Rattle.geom.specs.declared.Mirror.{Mirror}
 use Rattle.region_checks.specs.Boundary as Boundary
-use Rattle.region_asymmetry.specs.Asymmetry.{Lent, tooShort, refusalOf, answerOf, Worked}
+use Rattle.region_asymmetry.specs.Asymmetry.{Lent, tooShort, refusalOf, answerOf}
 use Rattle.region_asymmetry.specs.declared.Distance.the-variants.{Refused, Apart}
 
 pub record Long (n m : ℕ) (l : Lent) : Type 0 where
@@ -71,15 +70,3 @@ pub answer-apart : (k : ℕ) (far : Float) → k ≡ 0 → Apart far ≡ answerO
 unfolding answerOf
 answer-apart zero far h = refl
 answer-apart (suc k) far h = absurd (omega arith)
-
--- ---- what is left
-
-pub worked-same : {A : Type 0} (k n : ℕ) (l : List A) → Worked k n l l
-unfolding Worked
-worked-same zero n l = (refl, refl)
-worked-same (suc k) n l = refl
-
-pub worked-front : {A : Type 0} (k n : ℕ) (l s : List A) → k ≡ 0 → n ≤ length l → length s ≡ length (take n l) → Worked k n l (s ++ drop n l)
-unfolding Worked
-worked-front zero n l s e le len = (length-front l s n len, drop-at s (drop n l) n (len ∙ length-take-le n l le))
-worked-front (suc k) n l s e le len = absurd (omega arith)

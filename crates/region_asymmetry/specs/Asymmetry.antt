@@ -1,64 +1,20 @@
--- region.rs, `asymmetry`: the farthest any corner of a boundary triangle, seen in the plane, is from the boundary. Definitions only.
+-- region.rs, `asymmetry`: the call, over the distance of crate region_farthest. Definitions only.
 use Prim.Native.Nat.{ℕ, zero, suc}
 use mathlib.Core.Path.{_≡_}
 use mathlib.Core.Bool.{Bool, _||_}
-use mathlib.Core.List.{List, [], _∷_, map}
-use lib.ListN.{length, getD, drop}
-use lib.Dec.{ltb, eqb}
-use lib.Ieee.{Float, binary64, mul}
-use Rattle.lists.specs.Lists.{tabulate, foldTo, anyTo, choose, zero64}
-use Rattle.ieee.specs.Basic.{maxOf}
-use Rattle.ieee_root.specs.Sqrt.{sqrtOf}
-use Rattle.geom.specs.Vectors.{image}
-use Rattle.geom.specs.declared.Vec3.{Vec3}
+use mathlib.Core.List.{List}
+use lib.ListN.{length}
+use lib.Dec.{ltb}
+use lib.Ieee.{Float}
+use Rattle.lists.specs.Lists.{choose}
 use Rattle.geom.specs.declared.Mirror.{Mirror}
-use Rattle.mesh.specs.Mesh.{point}
+use Rattle.lent.specs.Points.{flat}
+use Rattle.lent.specs.Domain.{planeBad}
+use Rattle.lent.specs.Lent.{WorkedBy}
 use Rattle.region_checks.specs.Boundary as Boundary
-use Rattle.filter.specs.Group.{planeBad}
-use Rattle.region_off_centre.specs.OffCentre.{flat}
-use Rattle.region_tree.specs.Tree.{Tree, treeOf}
-use Rattle.region_nearest.specs.Nearest.{searchIn, unfound}
+use Rattle.region_farthest.specs.Farthest.{asymmetryOf}
 use Rattle.region_asymmetry.specs.declared.Distance.{Distance}
 use Rattle.region_asymmetry.specs.declared.Distance.the-variants.{Refused, Apart}
-
--- ---- the boundary
-
--- the coordinates of a triangle's three corners, in a row; its first three names are the corners
-unfoldable pub nineOf : List (List Float) → List ℕ → List Float
-nineOf nodes t =
-    let a = point (getD nodes (getD t 0 0) []) in
-    let b = point (getD nodes (getD t 1 0) []) in
-    let c = point (getD nodes (getD t 2 0) []) in
-    a .x ∷ a .y ∷ a .z ∷ b .x ∷ b .y ∷ b .z ∷ c .x ∷ c .y ∷ c .z ∷ []
-
--- `tris`
-unfoldable pub facesOf : List (List Float) → List (List ℕ) → List (List Float)
-facesOf nodes tris = map (nineOf nodes) tris
-
--- whether node k is a corner of a triangle
-abbrev pub cornerOf : List ℕ → ℕ → Bool
-cornerOf t k = (eqb (getD t 0 0) k || eqb (getD t 1 0) k) || eqb (getD t 2 0) k
-
-unfoldable pub isCorner : List (List ℕ) → ℕ → Bool
-isCorner tris k = anyTo (λ i. cornerOf (getD tris i []) k) (length tris)
-
--- ---- the distance
-
--- `Tree::new`: the tree of all triangles
-unfoldable pub wholeTree : List (List Float) → Tree
-wholeTree faces = treeOf faces (length faces) (tabulate (λ k. k) (length faces))
-
--- the farthest so far, with the corner p: its image's distance from the boundary by the tree's search, which needs none nearer than the farthest so far
-unfoldable pub farther : List (List Float) → Tree → Mirror → Vec3 → Float → Float
-farther faces t m p worst = maxOf worst (sqrtOf binary64 (searchIn faces (image m p) (mul binary64 worst worst) t unfound .best))
-
--- the corners one after another, by number; 0.0 with no triangles
-unfoldable pub asymmetryOf : List (List Float) → List (List ℕ) → Mirror → Float
-asymmetryOf nodes tris m =
-    let faces = facesOf nodes tris in
-    foldTo (λ k worst. choose (isCorner tris k) (farther faces (wholeTree faces) m (point (getD nodes k [])) worst) worst) zero64 (length nodes)
-
--- ---- the call
 
 -- the lists that it works in: one place a triangle, and in the last one a node
 pub record Lent : Type 0 where
@@ -91,11 +47,6 @@ unfoldable pub answerOf : ℕ → Float → Distance
 answerOf zero far = Apart far
 answerOf (suc k) far = Refused (suc k)
 
--- a working list of which n places are needed: kept on a refusal; else its needed places are free, and those past them as they were lent
-unfoldable pub Worked : {A : Type 0} → ℕ → ℕ → List A → List A → Type 0
-Worked zero n l l′ = (length l′ ≡ length l) × (drop n l′ ≡ drop n l)
-Worked (suc k) n l l′ = l′ ≡ l
-
 -- what `asymmetry` answers and leaves
 module _ (nodes : List (List Float)) (tris : List (List ℕ)) (m : Mirror) (l : Lent) where
   abbrev pub refused : ℕ
@@ -103,11 +54,11 @@ module _ (nodes : List (List Float)) (tris : List (List ℕ)) (m : Mirror) (l : 
 
   pub record Measured (l′ : Lent) (r : Distance) : Type 0 where
     pub answer : r ≡ answerOf refused (asymmetryOf nodes tris m)
-    pub faces : Worked refused (length tris) (l .faces) (l′ .faces)
-    pub kx : Worked refused (length tris) (l .kx) (l′ .kx)
-    pub ky : Worked refused (length tris) (l .ky) (l′ .ky)
-    pub kz : Worked refused (length tris) (l .kz) (l′ .kz)
-    pub order : Worked refused (length tris) (l .order) (l′ .order)
-    pub scratch : Worked refused (length tris) (l .scratch) (l′ .scratch)
-    pub boxes : Worked refused (length tris) (l .boxes) (l′ .boxes)
-    pub seen : Worked refused (length nodes) (l .seen) (l′ .seen)
+    pub faces : WorkedBy refused (length tris) (l .faces) (l′ .faces)
+    pub kx : WorkedBy refused (length tris) (l .kx) (l′ .kx)
+    pub ky : WorkedBy refused (length tris) (l .ky) (l′ .ky)
+    pub kz : WorkedBy refused (length tris) (l .kz) (l′ .kz)
+    pub order : WorkedBy refused (length tris) (l .order) (l′ .order)
+    pub scratch : WorkedBy refused (length tris) (l .scratch) (l′ .scratch)
+    pub boxes : WorkedBy refused (length tris) (l .boxes) (l′ .boxes)
+    pub seen : WorkedBy refused (length nodes) (l .seen) (l′ .seen)

@@ -1,19 +1,10 @@
 -- What the steps of the code promise each other. No part of what a caller must believe. Definitions only.
 use Prim.Native.Nat.{ℕ, _≤_, _<_}
 use mathlib.Core.Path.{_≡_}
-use mathlib.Core.Bool.{Bool, false}
-use mathlib.Core.List.{List, []}
-use lib.ListN.{length, getD}
+use mathlib.Core.Bool.{Bool}
+use mathlib.Core.List.{List}
+use lib.ListN.{length}
 use lib.Ieee.{Float}
-use Rattle.lists.specs.Lists.{foldTo, choose, zero64}
-use Rattle.geom.specs.declared.Mirror.{Mirror}
-use Rattle.mesh.specs.Mesh.{point}
-use Rattle.region_tree.specs.Tree.{Tree}
-use Rattle.region_asymmetry.specs.Asymmetry.{farther}
-
--- the farthest of the first n nodes that are marked
-unfoldable pub farthestIn : List (List Float) → Mirror → List (List Float) → Tree → List Bool → ℕ → Float
-farthestIn nodes m faces t seen n = foldTo (λ k worst. choose (getD seen k false) (farther faces t m (point (getD nodes k [])) worst) worst) zero64 n
 
 -- lists of just the needed places
 pub record Fits (nodes : List (List Float)) (tris : List (List ℕ)) (faces : List (List Float)) (kx ky kz order scratch : List ℕ) (boxes : List (List Float)) (seen : List Bool) : Type 0 where

@@ -1,8 +1,6 @@
 // How far a part's boundary is from its image in a plane (region.rs, `asymmetry`).
-pub mod far;
-pub mod fill;
-
 ghost use mathlib.Core.Path.{_≡_};
+ghost use Rattle.region_farthest.specs.Farthest.{asymmetryOf};
 ghost use Rattle.region_asymmetry.specs.Asymmetry as Spec;
 ghost use Rattle.region_asymmetry.specs.Steps as Steps;
 use geom::Mirror;
@@ -39,15 +37,15 @@ fn apart(
     seen: &mut [bool],
 ) -> f64
     requires { ⌜ Steps.Fits (now nodes) (now tris) (now faces) (now kx) (now ky) (now kz) (now order) (now scratch) (now boxes) (now seen) ⌝ }
-    ensures { λ r. ⌜ r ≡ Spec.asymmetryOf (now (nodes .entry)) (now (tris .entry)) mirror ⌝ }
+    ensures { λ r. ⌜ r ≡ asymmetryOf (now (nodes .entry)) (now (tris .entry)) mirror ⌝ }
 {
-    fill::gather(nodes, tris, faces);
-    fill::keys(faces, kx, ky, kz);
-    fill::number(order);
-    fill::clear(seen);
-    fill::mark(tris, seen);
+    region_farthest::fill::gather(nodes, tris, faces);
+    region_farthest::fill::keys(faces, kx, ky, kz);
+    region_farthest::fill::number(order);
+    region_farthest::fill::clear(seen);
+    region_farthest::fill::mark(tris, seen);
     region_tree::build(faces, kx, ky, kz, order, scratch, boxes);
-    far::farthest(nodes, mirror, faces, order, boxes, seen)
+    region_farthest::far::farthest(nodes, mirror, faces, order, boxes, seen)
 }
 
 // The distance or the refusal. All lists from faces on are for the call's own use: one place a triangle, and in seen one a node.

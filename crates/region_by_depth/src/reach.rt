@@ -3,35 +3,21 @@ ghost use mathlib.Core.Path.{_≡_};
 ghost use Prim.Native.Nat.{_+_, _-_, _^_, _≤_, _<_, min};
 ghost use lib.ListN.{length};
 ghost use Rattle.region_by_nodes.specs.Nodes.{inSet};
-ghost use Rattle.region_by_depth.specs.Depth as Depth;
-ghost use Rattle.region_by_depth.specs.Steps.{Ready, reached, reachedBy};
-use crate::Triangle;
-use geom::Vec3;
-
-// The corners of a triangle's box.
-fn low(t: Triangle) -> Vec3
-    ensures { λ r. ⌜ r ≡ Depth.lowOf t ⌝ }
-{
-    t.a.min(t.b).min(t.c)
-}
-
-fn high(t: Triangle) -> Vec3
-    ensures { λ r. ⌜ r ≡ Depth.highOf t ⌝ }
-{
-    t.a.max(t.b).max(t.c)
-}
+ghost use Rattle.region_cells.specs.Depth as Depth;
+ghost use Rattle.region_cells.specs.Steps.{Ready, reached, reachedBy};
+use region_cells::Triangle;
 
 // One cell below that of lo, and one above that of hi, where there is one.
 fn below(lo: f64, size: f64) -> u64
     ensures { λ r. ⌜ r ≡ Depth.cellNumber lo size - 1 ⌝ }
 {
-    cells::below(crate::cell_number(lo, size))
+    cells::below(region_cells::cell_number(lo, size))
 }
 
 fn above(hi: f64, size: f64) -> u64
     ensures { λ r. ⌜ r ≡ min (Depth.cellNumber hi size + 1) (2 ^ 64 - 1) ⌝ }
 {
-    cells::above(crate::cell_number(hi, size))
+    cells::above(region_cells::cell_number(hi, size))
 }
 
 // Marks what a triangle reaches, in cells of a size.
@@ -40,17 +26,17 @@ fn reach(
     depth: f64,
     size: f64,
     m: usize,
-    middles: &[[f64; 3]],
+    centroids: &[[f64; 3]],
     cells: &[[u64; 3]],
     order: &[u32],
     first: &[u32],
     marks: &mut [bool],
 )
-    requires { ⌜ Ready size (now middles) (now cells) (now order) (now first) m × (length (now marks) ≡ length (now middles)) ⌝ }
-    ensures { λ _. ⌜ now (marks .exit) ≡ reached size depth t (now (middles .entry)) (now (marks .entry)) ⌝ }
+    requires { ⌜ Ready size (now centroids) (now cells) (now order) (now first) m × (length (now marks) ≡ length (now centroids)) ⌝ }
+    ensures { λ _. ⌜ now (marks .exit) ≡ reached size depth t (now (centroids .entry)) (now (marks .entry)) ⌝ }
 {
-    let lo = low(t);
-    let hi = high(t);
+    let lo = region_cells::low(t);
+    let hi = region_cells::high(t);
     let x0 = below(lo.x, size);
     let x1 = above(hi.x, size);
     let y0 = below(lo.y, size);
@@ -73,7 +59,7 @@ fn reach(
         y1,
         z0,
         z1,
-        middles,
+        centroids,
         cells,
         order,
         first,
@@ -92,15 +78,15 @@ fn reach_all(
     depth: f64,
     size: f64,
     m: usize,
-    middles: &[[f64; 3]],
+    centroids: &[[f64; 3]],
     cells: &[[u64; 3]],
     order: &[u32],
     first: &[u32],
     marks: &mut [bool],
 )
-    requires { ⌜ Ready size (now middles) (now cells) (now order) (now first) m × (length (now marks) ≡ length (now middles)) ⌝ }
+    requires { ⌜ Ready size (now centroids) (now cells) (now order) (now first) m × (length (now marks) ≡ length (now centroids)) ⌝ }
     requires { ⌜ (length (now tris) ≤ length (now surfaces)) × (s + 1 < length (now starts)) ⌝ }
-    ensures { λ _. ⌜ now (marks .exit) ≡ reachedBy (now (nodes .entry)) (now (tris .entry)) (inSet (now (surfaces .entry)) (now (starts .entry)) (now (kept .entry)) s) size depth (now (middles .entry)) (length (now (tris .entry))) (now (marks .entry)) ⌝ }
+    ensures { λ _. ⌜ now (marks .exit) ≡ reachedBy (now (nodes .entry)) (now (tris .entry)) (inSet (now (surfaces .entry)) (now (starts .entry)) (now (kept .entry)) s) size depth (now (centroids .entry)) (length (now (tris .entry))) (now (marks .entry)) ⌝ }
 {
     let n = tris.len();
     let mut t = 0usize;
@@ -110,11 +96,11 @@ fn reach_all(
         t += 1usize;
         if region_by_nodes::in_set(starts, kept, s, surface) {
             reach(
-                crate::corners(nodes, tri),
+                region_cells::corners(nodes, tri),
                 depth,
                 size,
                 m,
-                middles,
+                centroids,
                 cells,
                 order,
                 first,
@@ -133,19 +119,19 @@ pub fn by_depth(
     kept: &[u32],
     s: usize,
     depth: f64,
-    middles: &[[f64; 3]],
+    centroids: &[[f64; 3]],
     cells: &mut [[u64; 3]],
     order: &mut [u32],
     place: &mut [u32],
     first: &mut [u32],
     marks: &mut [bool],
 )
-    requires { ⌜ (0 < length (now middles)) × (length (now middles) < 65536) × (length (now cells) ≡ length (now middles)) × (length (now order) ≡ length (now middles)) × (length (now place) ≡ length (now middles)) × (length (now first) ≡ length (now middles) + 1) × (length (now marks) ≡ length (now middles)) ⌝ }
+    requires { ⌜ (0 < length (now centroids)) × (length (now centroids) < 65536) × (length (now cells) ≡ length (now centroids)) × (length (now order) ≡ length (now centroids)) × (length (now place) ≡ length (now centroids)) × (length (now first) ≡ length (now centroids) + 1) × (length (now marks) ≡ length (now centroids)) ⌝ }
     requires { ⌜ (length (now tris) ≤ length (now surfaces)) × (s + 1 < length (now starts)) ⌝ }
-    ensures { λ _. ⌜ now (marks .exit) ≡ reachedBy (now (nodes .entry)) (now (tris .entry)) (inSet (now (surfaces .entry)) (now (starts .entry)) (now (kept .entry)) s) (Depth.cellSize (now (nodes .entry)) (now (tris .entry)) (inSet (now (surfaces .entry)) (now (starts .entry)) (now (kept .entry)) s) depth) depth (now (middles .entry)) (length (now (tris .entry))) (now (marks .entry)) ⌝ }
+    ensures { λ _. ⌜ now (marks .exit) ≡ reachedBy (now (nodes .entry)) (now (tris .entry)) (inSet (now (surfaces .entry)) (now (starts .entry)) (now (kept .entry)) s) (Depth.cellSize (now (nodes .entry)) (now (tris .entry)) (inSet (now (surfaces .entry)) (now (starts .entry)) (now (kept .entry)) s) depth) depth (now (centroids .entry)) (length (now (tris .entry))) (now (marks .entry)) ⌝ }
 {
-    let size = crate::cell_size(nodes, tris, surfaces, starts, kept, s, depth);
-    crate::cells_of(middles, size, cells);
+    let size = region_cells::cell_size(nodes, tris, surfaces, starts, kept, s, depth);
+    region_cells::cells_of(centroids, size, cells);
     let m = cells_file::file(cells, order, place, first);
     reach_all(
         nodes,
@@ -157,7 +143,7 @@ pub fn by_depth(
         depth,
         size,
         m,
-        middles,
+        centroids,
         cells,
         order,
         first,

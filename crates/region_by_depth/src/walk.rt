@@ -4,19 +4,10 @@ ghost use mathlib.Core.Bool.{true};
 ghost use Prim.Native.Nat.{_+_, _≤_, _<_};
 ghost use lib.ListN.{length, getD, set};
 ghost use Rattle.lists.specs.Lists.{choose};
-ghost use Rattle.mesh.specs.Mesh.{point};
 ghost use Rattle.cells.specs.Cells.{changed};
 ghost use Rattle.cells.specs.Filing.{Filed};
-ghost use Rattle.region_by_depth.specs.Depth.{atMost};
-ghost use Rattle.region_by_depth.specs.Steps.{seenAt, boxNear};
-use crate::Triangle;
-
-// Whether a middle is at most at the limit, a squared distance.
-fn is_near(t: Triangle, limit: f64, p: [f64; 3]) -> bool
-    ensures { λ r. ⌜ r ≡ atMost limit t (point p) ⌝ }
-{
-    faces::dist2_to_triangle(mesh::point(p), t.a, t.b, t.c) <= limit
-}
+ghost use Rattle.region_cells.specs.Steps.{seenAt, boxNear};
+use region_cells::Triangle;
 
 // Looks at the element at position k: it is marked where it stands in the column x, y, z0 ..= z1 and is near. One that is marked needs no look.
 fn look(
@@ -27,13 +18,13 @@ fn look(
     y: u64,
     z0: u64,
     z1: u64,
-    middles: &[[f64; 3]],
+    centroids: &[[f64; 3]],
     cells: &[[u64; 3]],
     order: &[u32],
     marks: &mut [bool],
 )
-    requires { ⌜ (k < length (now order)) × (getD (now order) k 0 < length (now cells)) × (getD (now order) k 0 < length (now middles)) × (getD (now order) k 0 < length (now marks)) ⌝ }
-    ensures { λ _. ⌜ now (marks .exit) ≡ choose (seenAt t limit k x y z0 z1 (now (middles .entry)) (now (cells .entry)) (now (order .entry))) (set (now (marks .entry)) (getD (now (order .entry)) k 0) true) (now (marks .entry)) ⌝ }
+    requires { ⌜ (k < length (now order)) × (getD (now order) k 0 < length (now cells)) × (getD (now order) k 0 < length (now centroids)) × (getD (now order) k 0 < length (now marks)) ⌝ }
+    ensures { λ _. ⌜ now (marks .exit) ≡ choose (seenAt t limit k x y z0 z1 (now (centroids .entry)) (now (cells .entry)) (now (order .entry))) (set (now (marks .entry)) (getD (now (order .entry)) k 0) true) (now (marks .entry)) ⌝ }
 {
     let i = order[k] as usize;
     if marks[i] {
@@ -41,7 +32,7 @@ fn look(
     }
     let c = cells[i];
     if cells::in_column(c[0], c[1], c[2], x, y, z0, z1) {
-        if is_near(t, limit, middles[i]) {
+        if region_cells::is_near(t, limit, centroids[i]) {
             marks[i] = true;
         }
     }
@@ -56,20 +47,20 @@ fn column(
     y: u64,
     z0: u64,
     z1: u64,
-    middles: &[[f64; 3]],
+    centroids: &[[f64; 3]],
     cells: &[[u64; 3]],
     order: &[u32],
     first: &[u32],
     marks: &mut [bool],
 )
-    requires { ⌜ Filed (now cells) (now order) (now first) m × (length (now cells) ≡ length (now middles)) × (length (now marks) ≡ length (now middles)) ⌝ }
-    ensures { λ _. ⌜ now (marks .exit) ≡ changed (boxNear t limit (now (middles .entry)) (now (cells .entry)) x (x + 1) y (y + 1) z0 (z1 + 1)) (λ _ _. true) (now (marks .entry)) ⌝ }
+    requires { ⌜ Filed (now cells) (now order) (now first) m × (length (now cells) ≡ length (now centroids)) × (length (now marks) ≡ length (now centroids)) ⌝ }
+    ensures { λ _. ⌜ now (marks .exit) ≡ changed (boxNear t limit (now (centroids .entry)) (now (cells .entry)) x (x + 1) y (y + 1) z0 (z1 + 1)) (λ _ _. true) (now (marks .entry)) ⌝ }
 {
     let s = cells::span(first, m, cells.len(), x, y, z0, z1);
     let mut k = s.from;
     let to = s.to;
     while k < to {
-        look(t, limit, k, x, y, z0, z1, middles, cells, order, marks);
+        look(t, limit, k, x, y, z0, z1, centroids, cells, order, marks);
         k += 1usize;
     }
 }
@@ -84,14 +75,14 @@ fn plane(
     y1: u64,
     z0: u64,
     z1: u64,
-    middles: &[[f64; 3]],
+    centroids: &[[f64; 3]],
     cells: &[[u64; 3]],
     order: &[u32],
     first: &[u32],
     marks: &mut [bool],
 )
-    requires { ⌜ Filed (now cells) (now order) (now first) m × (length (now cells) ≡ length (now middles)) × (length (now marks) ≡ length (now middles)) × (y0 ≤ y1) ⌝ }
-    ensures { λ _. ⌜ now (marks .exit) ≡ changed (boxNear t limit (now (middles .entry)) (now (cells .entry)) x (x + 1) y0 (y1 + 1) z0 (z1 + 1)) (λ _ _. true) (now (marks .entry)) ⌝ }
+    requires { ⌜ Filed (now cells) (now order) (now first) m × (length (now cells) ≡ length (now centroids)) × (length (now marks) ≡ length (now centroids)) × (y0 ≤ y1) ⌝ }
+    ensures { λ _. ⌜ now (marks .exit) ≡ changed (boxNear t limit (now (centroids .entry)) (now (cells .entry)) x (x + 1) y0 (y1 + 1) z0 (z1 + 1)) (λ _ _. true) (now (marks .entry)) ⌝ }
 {
     column(
         t,
@@ -101,7 +92,7 @@ fn plane(
         y0,
         z0,
         z1,
-        middles,
+        centroids,
         cells,
         order,
         first,
@@ -118,7 +109,7 @@ fn plane(
             y,
             z0,
             z1,
-            middles,
+            centroids,
             cells,
             order,
             first,
@@ -138,14 +129,14 @@ pub fn block(
     y1: u64,
     z0: u64,
     z1: u64,
-    middles: &[[f64; 3]],
+    centroids: &[[f64; 3]],
     cells: &[[u64; 3]],
     order: &[u32],
     first: &[u32],
     marks: &mut [bool],
 )
-    requires { ⌜ Filed (now cells) (now order) (now first) m × (length (now cells) ≡ length (now middles)) × (length (now marks) ≡ length (now middles)) × (y0 ≤ y1) × (x0 ≤ x1) ⌝ }
-    ensures { λ _. ⌜ now (marks .exit) ≡ changed (boxNear t limit (now (middles .entry)) (now (cells .entry)) x0 (x1 + 1) y0 (y1 + 1) z0 (z1 + 1)) (λ _ _. true) (now (marks .entry)) ⌝ }
+    requires { ⌜ Filed (now cells) (now order) (now first) m × (length (now cells) ≡ length (now centroids)) × (length (now marks) ≡ length (now centroids)) × (y0 ≤ y1) × (x0 ≤ x1) ⌝ }
+    ensures { λ _. ⌜ now (marks .exit) ≡ changed (boxNear t limit (now (centroids .entry)) (now (cells .entry)) x0 (x1 + 1) y0 (y1 + 1) z0 (z1 + 1)) (λ _ _. true) (now (marks .entry)) ⌝ }
 {
     plane(
         t,
@@ -156,7 +147,7 @@ pub fn block(
         y1,
         z0,
         z1,
-        middles,
+        centroids,
         cells,
         order,
         first,
@@ -174,7 +165,7 @@ pub fn block(
             y1,
             z0,
             z1,
-            middles,
+            centroids,
             cells,
             order,
             first,

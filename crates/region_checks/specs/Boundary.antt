@@ -3,14 +3,14 @@ use Prim.Native.Nat.{ℕ}
 use mathlib.Core.Bool.{Bool, _||_}
 use mathlib.Core.List.{List, []}
 use lib.ListN.{length, getD}
-use lib.Dec.{leb, ltb}
+use lib.Dec.{leb}
 use lib.Ieee.{Float}
 use Rattle.lists.specs.Lists.{anyTo, choose}
-use Rattle.mesh.specs.Mesh.{nodesOutside}
+use Rattle.lent.specs.Domain.{tooManyElements, tooManyNodes, pointsBad}
 
--- 3: "At most 65,535 elements or triangles and 1,048,576 nodes"
+-- 3: "more than the domain's counts"
 abbrev pub tooMany : ℕ → ℕ → ℕ → Bool
-tooMany elements tris nodes = ltb 65535 elements || ltb 65535 tris || ltb 1048576 nodes
+tooMany elements tris nodes = tooManyElements elements || tooManyElements tris || tooManyNodes nodes
 
 -- 21: "a boundary triangle names a node that isn't there": one of its six names is not below the count n of nodes
 unfoldable pub missingIn : ℕ → List ℕ → Bool
@@ -24,4 +24,4 @@ unfoldable pub refusalOf : ℕ → List (List Float) → List (List ℕ) → ℕ
 refusalOf elements nodes tris rest =
     choose (tooMany elements (length tris) (length nodes)) 3
     (choose (anyMissing (length nodes) tris) 21
-    (choose (nodesOutside nodes) 9 rest))
+    (choose (pointsBad nodes) 9 rest))

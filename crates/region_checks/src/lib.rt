@@ -36,7 +36,7 @@ pub fn refusal(elements: usize, nodes: &[[f64; 3]], tris: &[[u32; 6]], rest: u32
     if any_missing(nodes.len(), tris) {
         return 21;
     }
-    if mesh::any_outside(nodes) {
+    if lent::points_bad(nodes) {
         return 9;
     }
     rest

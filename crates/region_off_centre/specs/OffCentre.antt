@@ -1,23 +1,19 @@
 -- region.rs, `off_centre`, in the Rust's operation order; the plane's normal is used as it is given. Definitions only.
 use Prim.Native.Nat.{ℕ}
 use mathlib.Core.Bool.{true, false, _&&_}
-use mathlib.Core.List.{List, [], _∷_}
+use mathlib.Core.List.{List, []}
 use lib.ListN.{length, getD}
-use lib.Dec.{ltb, eqb}
+use lib.Dec.{eqb}
 use lib.Ieee.{Float, inf, binary64, add, sub, mul, div, neg, le, lt, ofBits}
 use Rattle.lists.specs.Lists.{foldTo, choose, zero64}
 use Rattle.ieee.specs.Basic.{absOf, minOf, maxOf}
 use Rattle.geom.specs.Vectors.{less, dot, two64}
 use Rattle.geom.specs.declared.Vec3.{Vec3}
 use Rattle.geom.specs.declared.Mirror.{Mirror}
-use Rattle.mesh.specs.Mesh.{point, nodesOutside}
-use Rattle.filter.specs.Group.{planeBad}
+use Rattle.lent.specs.Points.{point, flat}
+use Rattle.lent.specs.Domain.{tooManyNodes, pointsBad, planeBad}
 use Rattle.region_off_centre.specs.declared.Balance.{Balance}
 use Rattle.region_off_centre.specs.declared.Balance.the-variants.{Refused, Even, Reaches}
-
--- a plane as it is lent: its point, then its normal
-abbrev pub flat : Mirror → List Float
-flat m = m .point .x ∷ m .point .y ∷ m .point .z ∷ m .normal .x ∷ m .normal .y ∷ m .normal .z ∷ []
 
 -- 0.1
 abbrev pub tenth64 : Float
@@ -44,8 +40,8 @@ balanceOf lo hi =
 -- 3, 9, 11 in this order, 0 where nothing is refused; the points are nodes
 unfoldable pub refusalOf : List (List Float) → Mirror → ℕ
 refusalOf points m =
-    choose (ltb 1048576 (length points)) 3
-    (choose (nodesOutside points) 9
+    choose (tooManyNodes (length points)) 3
+    (choose (pointsBad points) 9
     (choose (planeBad (flat m)) 11 0))
 
 -- the answer, case by case: 01's number, none, or the two reaches

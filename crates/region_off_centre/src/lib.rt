@@ -1,6 +1,7 @@
 // How far points reach to each side of a plane, where they are off its middle (region.rs, `off_centre`).
 ghost use mathlib.Core.Path.{_≡_};
-ghost use Rattle.filter.specs.Group.{planeBad};
+ghost use Rattle.lent.specs.Points.{flat};
+ghost use Rattle.lent.specs.Domain.{planeBad};
 ghost use Rattle.region_off_centre.specs.OffCentre as Centre;
 use geom::Mirror;
 use geom::Vec3;
@@ -15,11 +16,11 @@ pub enum Balance {
 
 // Whether a plane is refused. Internal: for `region_asymmetry` too.
 pub fn plane_bad(m: Mirror) -> bool
-    ensures { λ r. ⌜ r ≡ planeBad (Centre.flat m) ⌝ }
+    ensures { λ r. ⌜ r ≡ planeBad (flat m) ⌝ }
 {
     let p = m.point;
     let n = m.normal;
-    filter::group::plane_bad([p.x, p.y, p.z, n.x, n.y, n.z])
+    lent::plane_bad([p.x, p.y, p.z, n.x, n.y, n.z])
 }
 
 fn refusal(points: &[[f64; 3]], mirror: Mirror) -> u32
@@ -28,7 +29,7 @@ fn refusal(points: &[[f64; 3]], mirror: Mirror) -> u32
     if 1048576 < points.len() {
         return 3;
     }
-    if mesh::any_outside(points) {
+    if lent::points_bad(points) {
         return 9;
     }
     if plane_bad(mirror) {
@@ -66,7 +67,7 @@ pub fn off_centre(points: &[[f64; 3]], mirror: Mirror) -> Balance
     let mut hi = -1.0 / 0.0;
     let mut i = 0;
     while i < points.len() {
-        let d = reach(mirror, mesh::point(points[i]));
+        let d = reach(mirror, lent::point(points[i]));
         lo = ieee::min(lo, d);
         hi = ieee::max(hi, d);
         i += 1;

@@ -7,20 +7,21 @@ use lib.ListN.{length, getD, drop}
 use lib.Ieee.{Float, nan}
 use Rattle.lists.specs.Lists.{foldTo, choose}
 use Rattle.region_by_nodes.specs.Nodes.{inSet}
-use Rattle.region_by_depth.specs.Depth.{isDepth, cellSize}
-use Rattle.region_by_depth.specs.Steps.{reachedBy}
+use Rattle.lent.specs.Domain.{isDepth}
+use Rattle.region_cells.specs.Depth.{cellSize}
+use Rattle.region_cells.specs.Steps.{reachedBy}
 use Rattle.region_passive.specs.Passive.{Problem, Lent, setsIn}
 
 -- what the triangles of set s reach is marked, where it has a depth
 unfoldable pub deepened : Problem → List (List Float) → ℕ → List Bool → List Bool
-deepened q middles s w =
+deepened q centroids s w =
     let set = inSet (q .surfaces) (q .starts) (q .kept) s in
     let depth = getD (q .depths) s nan in
-    choose (isDepth depth) (reachedBy (q .nodes) (q .tris) set (cellSize (q .nodes) (q .tris) set depth) depth middles (length (q .tris)) w) w
+    choose (isDepth depth) (reachedBy (q .nodes) (q .tris) set (cellSize (q .nodes) (q .tris) set depth) depth centroids (length (q .tris)) w) w
 
 -- by the first n sets
 unfoldable pub deepenedTo : Problem → List (List Float) → ℕ → List Bool → List Bool
-deepenedTo q middles n w = foldTo (deepened q middles) w n
+deepenedTo q centroids n w = foldTo (deepened q centroids) w n
 
 -- lists for the sets' depths that are as long as needed, for n elements
 pub record Sized (n tris sets surfaces starts marks cells order place first : ℕ) : Type 0 where
@@ -41,7 +42,7 @@ pub record Fitting (q : Problem) (l : Lent) : Type 0 where
   pub begun : setsIn q < length (q .starts)
   pub marked : length (l .marks) ≡ length (q .tets)
   pub keeps : length (l .keep) ≡ length (q .nodes)
-  pub middled : length (l .middles) ≡ length (q .tets)
+  pub middled : length (l .centroids) ≡ length (q .tets)
   pub celled : length (l .cells) ≡ length (q .tets)
   pub orders : length (l .order) ≡ length (q .tets)
   pub places : length (l .place) ≡ length (q .tets)
@@ -54,7 +55,7 @@ pub record Roomy (q : Problem) (l : Lent) : Type 0 where
   pub begun : setsIn q < length (q .starts)
   pub marked : length (q .tets) ≤ length (l .marks)
   pub keeps : length (q .nodes) ≤ length (l .keep)
-  pub middled : length (q .tets) ≤ length (l .middles)
+  pub middled : length (q .tets) ≤ length (l .centroids)
   pub celled : length (q .tets) ≤ length (l .cells)
   pub orders : length (q .tets) ≤ length (l .order)
   pub places : length (q .tets) ≤ length (l .place)
@@ -63,7 +64,7 @@ pub record Roomy (q : Problem) (l : Lent) : Type 0 where
 -- the working lists are as lent past the places needed
 pub record Past (q : Problem) (l l′ : Lent) : Type 0 where
   pub keeps : drop (length (q .nodes)) (l′ .keep) ≡ drop (length (q .nodes)) (l .keep)
-  pub middled : drop (length (q .tets)) (l′ .middles) ≡ drop (length (q .tets)) (l .middles)
+  pub middled : drop (length (q .tets)) (l′ .centroids) ≡ drop (length (q .tets)) (l .centroids)
   pub celled : drop (length (q .tets)) (l′ .cells) ≡ drop (length (q .tets)) (l .cells)
   pub orders : drop (length (q .tets)) (l′ .order) ≡ drop (length (q .tets)) (l .order)
   pub places : drop (length (q .tets)) (l′ .place) ≡ drop (length (q .tets)) (l .place)

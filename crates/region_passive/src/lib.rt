@@ -1,7 +1,6 @@
 // Which elements must stay solid (region.rs, `passive`): those under a support or a load, and those of kept sets of surfaces, to a depth. Held and loaded
 // nodes are given by number; set s has the surfaces kept[starts[s]] .. kept[starts[s + 1] - 1] and the depth depths[s], which is none where it is not
 // finite or not above 0.
-mod refuse;
 mod stages;
 
 ghost use Rattle.region_passive.specs.Passive.{Marked};
@@ -20,15 +19,15 @@ pub fn passive(
     depths: &[f64],
     marks: &mut [bool],
     keep: &mut [bool],
-    middles: &mut [[f64; 3]],
+    centroids: &mut [[f64; 3]],
     cells: &mut [[u64; 3]],
     order: &mut [u32],
     place: &mut [u32],
     first: &mut [u32],
 ) -> u32
-    ensures { λ r. ⌜ Marked (record { nodes = now (nodes .entry); tets = now (tets .entry); tris = now (tris .entry); surfaces = now (surfaces .entry); held = now (held .entry); loaded = now (loaded .entry); starts = now (starts .entry); kept = now (kept .entry); depths = now (depths .entry) }) (record { marks = now (marks .entry); keep = now (keep .entry); middles = now (middles .entry); cells = now (cells .entry); order = now (order .entry); place = now (place .entry); first = now (first .entry) }) (record { marks = now (marks .exit); keep = now (keep .exit); middles = now (middles .exit); cells = now (cells .exit); order = now (order .exit); place = now (place .exit); first = now (first .exit) }) r ⌝ }
+    ensures { λ r. ⌜ Marked (record { nodes = now (nodes .entry); tets = now (tets .entry); tris = now (tris .entry); surfaces = now (surfaces .entry); held = now (held .entry); loaded = now (loaded .entry); starts = now (starts .entry); kept = now (kept .entry); depths = now (depths .entry) }) (record { marks = now (marks .entry); keep = now (keep .entry); centroids = now (centroids .entry); cells = now (cells .entry); order = now (order .entry); place = now (place .entry); first = now (first .entry) }) (record { marks = now (marks .exit); keep = now (keep .exit); centroids = now (centroids .exit); cells = now (cells .exit); order = now (order .exit); place = now (place .exit); first = now (first .exit) }) r ⌝ }
 {
-    let short = crate::refuse::too_short(
+    let short = region_passive_checks::too_short(
         nodes.len(),
         tets.len(),
         tris.len(),
@@ -37,13 +36,21 @@ pub fn passive(
         starts.len(),
         marks.len(),
         keep.len(),
-        middles.len(),
+        centroids.len(),
         cells.len(),
         order.len(),
         place.len(),
         first.len(),
     );
-    let r = crate::refuse::refusal(nodes, tets.len(), tris, starts, kept.len(), depths, short);
+    let r = region_passive_checks::refusal(
+        nodes,
+        tets.len(),
+        tris,
+        starts,
+        kept.len(),
+        depths,
+        short,
+    );
     if r > 0 {
         return r;
     }
@@ -59,7 +66,7 @@ pub fn passive(
         depths,
         marks,
         keep,
-        middles,
+        centroids,
         cells,
         order,
         place,

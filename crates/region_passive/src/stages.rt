@@ -3,19 +3,20 @@ ghost use mathlib.Core.Path.{_≡_};
 ghost use mathlib.Core.List.{[]};
 ghost use lib.ListN.{length, getD};
 ghost use Rattle.lists.specs.Lists.{tabulate, overwrite};
-ghost use Rattle.mesh.specs.Mesh.{stored, centroidOf};
+ghost use Rattle.lent.specs.Points.{stored};
+ghost use Rattle.mesh.specs.Mesh.{centroidOf};
 ghost use Rattle.region_passive.specs.Passive.{passiveAt};
 ghost use Rattle.region_passive.specs.Steps.{Sized, Fitting, Roomy, Past, deepenedTo};
 
-fn middles_of(nodes: &[[f64; 3]], tets: &[[u32; 10]], middles: &mut [[f64; 3]])
-    requires { ⌜ length (now middles) ≡ length (now tets) ⌝ }
-    ensures { λ _. ⌜ now (middles .exit) ≡ tabulate (λ e. stored (centroidOf (now (nodes .entry)) (getD (now (tets .entry)) e []))) (length (now (tets .entry))) ⌝ }
+fn centroids_of(nodes: &[[f64; 3]], tets: &[[u32; 10]], centroids: &mut [[f64; 3]])
+    requires { ⌜ length (now centroids) ≡ length (now tets) ⌝ }
+    ensures { λ _. ⌜ now (centroids .exit) ≡ tabulate (λ e. stored (centroidOf (now (nodes .entry)) (getD (now (tets .entry)) e []))) (length (now (tets .entry))) ⌝ }
 {
     let n = tets.len();
     let mut e = 0usize;
     while e < n {
         let m = mesh::centroid(nodes, tets[e]);
-        middles[e] = [m.x, m.y, m.z];
+        centroids[e] = [m.x, m.y, m.z];
         e += 1usize;
     }
 }
@@ -28,15 +29,15 @@ fn by_depths(
     starts: &[u32],
     kept: &[u32],
     depths: &[f64],
-    middles: &[[f64; 3]],
+    centroids: &[[f64; 3]],
     cells: &mut [[u64; 3]],
     order: &mut [u32],
     place: &mut [u32],
     first: &mut [u32],
     marks: &mut [bool],
 )
-    requires { ⌜ Sized (length (now middles)) (length (now tris)) (length (now depths)) (length (now surfaces)) (length (now starts)) (length (now marks)) (length (now cells)) (length (now order)) (length (now place)) (length (now first)) ⌝ }
-    ensures { λ _. ⌜ now (marks .exit) ≡ deepenedTo (record { nodes = now (nodes .entry); tets = []; tris = now (tris .entry); surfaces = now (surfaces .entry); held = []; loaded = []; starts = now (starts .entry); kept = now (kept .entry); depths = now (depths .entry) }) (now (middles .entry)) (length (now (depths .entry))) (now (marks .entry)) ⌝ }
+    requires { ⌜ Sized (length (now centroids)) (length (now tris)) (length (now depths)) (length (now surfaces)) (length (now starts)) (length (now marks)) (length (now cells)) (length (now order)) (length (now place)) (length (now first)) ⌝ }
+    ensures { λ _. ⌜ now (marks .exit) ≡ deepenedTo (record { nodes = now (nodes .entry); tets = []; tris = now (tris .entry); surfaces = now (surfaces .entry); held = []; loaded = []; starts = now (starts .entry); kept = now (kept .entry); depths = now (depths .entry) }) (now (centroids .entry)) (length (now (depths .entry))) (now (marks .entry)) ⌝ }
 {
     let n = depths.len();
     let mut s = 0usize;
@@ -44,7 +45,7 @@ fn by_depths(
         let depth = depths[s];
         let at = s;
         s += 1usize;
-        if region_by_depth::is_depth(depth) {
+        if lent::is_depth(depth) {
             region_by_depth::reach::by_depth(
                 nodes,
                 tris,
@@ -53,7 +54,7 @@ fn by_depths(
                 kept,
                 at,
                 depth,
-                middles,
+                centroids,
                 cells,
                 order,
                 place,
@@ -76,13 +77,13 @@ fn mark(
     depths: &[f64],
     marks: &mut [bool],
     keep: &mut [bool],
-    middles: &mut [[f64; 3]],
+    centroids: &mut [[f64; 3]],
     cells: &mut [[u64; 3]],
     order: &mut [u32],
     place: &mut [u32],
     first: &mut [u32],
 )
-    requires { ⌜ Fitting (record { nodes = now nodes; tets = now tets; tris = now tris; surfaces = now surfaces; held = now held; loaded = now loaded; starts = now starts; kept = now kept; depths = now depths }) (record { marks = now marks; keep = now keep; middles = now middles; cells = now cells; order = now order; place = now place; first = now first }) ⌝ }
+    requires { ⌜ Fitting (record { nodes = now nodes; tets = now tets; tris = now tris; surfaces = now surfaces; held = now held; loaded = now loaded; starts = now starts; kept = now kept; depths = now depths }) (record { marks = now marks; keep = now keep; centroids = now centroids; cells = now cells; order = now order; place = now place; first = now first }) ⌝ }
     ensures { λ _. ⌜ now (marks .exit) ≡ tabulate (passiveAt (record { nodes = now (nodes .entry); tets = now (tets .entry); tris = now (tris .entry); surfaces = now (surfaces .entry); held = now (held .entry); loaded = now (loaded .entry); starts = now (starts .entry); kept = now (kept .entry); depths = now (depths .entry) })) (length (now (tets .entry))) ⌝ }
 {
     region_by_nodes::by_nodes(
@@ -100,7 +101,7 @@ fn mark(
     if tets.len() < 1usize {
         return;
     }
-    middles_of(nodes, tets, middles);
+    centroids_of(nodes, tets, centroids);
     by_depths(
         nodes,
         tris,
@@ -108,7 +109,7 @@ fn mark(
         starts,
         kept,
         depths,
-        middles,
+        centroids,
         cells,
         order,
         place,
@@ -130,15 +131,15 @@ pub fn mark_front(
     depths: &[f64],
     marks: &mut [bool],
     keep: &mut [bool],
-    middles: &mut [[f64; 3]],
+    centroids: &mut [[f64; 3]],
     cells: &mut [[u64; 3]],
     order: &mut [u32],
     place: &mut [u32],
     first: &mut [u32],
 )
-    requires { ⌜ Roomy (record { nodes = now nodes; tets = now tets; tris = now tris; surfaces = now surfaces; held = now held; loaded = now loaded; starts = now starts; kept = now kept; depths = now depths }) (record { marks = now marks; keep = now keep; middles = now middles; cells = now cells; order = now order; place = now place; first = now first }) ⌝ }
+    requires { ⌜ Roomy (record { nodes = now nodes; tets = now tets; tris = now tris; surfaces = now surfaces; held = now held; loaded = now loaded; starts = now starts; kept = now kept; depths = now depths }) (record { marks = now marks; keep = now keep; centroids = now centroids; cells = now cells; order = now order; place = now place; first = now first }) ⌝ }
     ensures { λ _. ⌜ now (marks .exit) ≡ overwrite (passiveAt (record { nodes = now (nodes .entry); tets = now (tets .entry); tris = now (tris .entry); surfaces = now (surfaces .entry); held = now (held .entry); loaded = now (loaded .entry); starts = now (starts .entry); kept = now (kept .entry); depths = now (depths .entry) })) (length (now (tets .entry))) (now (marks .entry)) ⌝ }
-    ensures { λ _. ⌜ Past (record { nodes = now (nodes .entry); tets = now (tets .entry); tris = now (tris .entry); surfaces = now (surfaces .entry); held = now (held .entry); loaded = now (loaded .entry); starts = now (starts .entry); kept = now (kept .entry); depths = now (depths .entry) }) (record { marks = now (marks .entry); keep = now (keep .entry); middles = now (middles .entry); cells = now (cells .entry); order = now (order .entry); place = now (place .entry); first = now (first .entry) }) (record { marks = now (marks .exit); keep = now (keep .exit); middles = now (middles .exit); cells = now (cells .exit); order = now (order .exit); place = now (place .exit); first = now (first .exit) }) ⌝ }
+    ensures { λ _. ⌜ Past (record { nodes = now (nodes .entry); tets = now (tets .entry); tris = now (tris .entry); surfaces = now (surfaces .entry); held = now (held .entry); loaded = now (loaded .entry); starts = now (starts .entry); kept = now (kept .entry); depths = now (depths .entry) }) (record { marks = now (marks .entry); keep = now (keep .entry); centroids = now (centroids .entry); cells = now (cells .entry); order = now (order .entry); place = now (place .entry); first = now (first .entry) }) (record { marks = now (marks .exit); keep = now (keep .exit); centroids = now (centroids .exit); cells = now (cells .exit); order = now (order .exit); place = now (place .exit); first = now (first .exit) }) ⌝ }
 {
     let n = tets.len();
     let m = n + 1usize;
@@ -155,7 +156,7 @@ pub fn mark_front(
         depths,
         &mut marks[..n],
         &mut keep[..k],
-        &mut middles[..n],
+        &mut centroids[..n],
         &mut cells[..n],
         &mut order[..n],
         &mut place[..n],

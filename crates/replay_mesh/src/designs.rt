@@ -8,11 +8,11 @@ pub fn design() -> bool {
     let mut nodes = [[0.0; 3]; 20];
     let mut elements = [[0u32; 10]; 10];
     let mut volumes = [0.0; 10];
-    let mut middles = [[0.0; 3]; 10];
+    let mut centroids = [[0.0; 3]; 10];
     points(&mut nodes);
     tets(&mut elements);
-    let refused = mesh::design(&nodes, &elements, &mut volumes, &mut middles);
+    let refused = region_design::design(&nodes, &elements, &mut volumes, &mut centroids);
     let all_volumes = are(&volumes);
-    let all_middles = are_points(&middles);
+    let all_middles = are_points(&centroids);
     (refused == 0) & all_volumes & all_middles
 }

@@ -21,7 +21,7 @@ fn marked(
     let mut kept = [0u32; 4];
     let mut depths = [0.0; 2];
     let mut keep = [false; 45];
-    let mut middles = [[0.0; 3]; 12];
+    let mut centroids = [[0.0; 3]; 12];
     let mut cells = [[0u64; 3]; 12];
     let mut order = [0u32; 12];
     let mut place = [0u32; 12];
@@ -43,7 +43,7 @@ fn marked(
         &depths,
         marks,
         &mut keep,
-        &mut middles,
+        &mut centroids,
         &mut cells,
         &mut order,
         &mut place,

@@ -23,7 +23,8 @@ use Rattle.run_plain.specs.declared.Verdict.{Verdict}
 use Rattle.run_plain.specs.declared.Verdict.the-variants.{Kept, Over, Halts, Begins, Solves}
 use Rattle.run_plain.specs.declared.Course.{Course}
 use Rattle.run_plain.specs.declared.Course.the-variants.{Onward, Ends}
-use Rattle.run_plain.specs.Lent.{short, answerWork, runShort, answerShort}
+use Rattle.lent.specs.Lent.{short}
+use Rattle.run_plain.specs.Lent.{answerWork, runShort, answerShort}
 use Rattle.run_plain.specs.Formulas.{sharpness, see}
 use Rattle.run_plain.specs.Plain.{judged, firstStop}
 use Rattle.run_plain.specs.Runs.{Sane}

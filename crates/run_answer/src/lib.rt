@@ -1,5 +1,5 @@
 // The core of an answer: every list but the history, whose record is returned with its place.
-mod lent;
+mod fronts;
 
 ghost use mathlib.Core.Path.{_≡_};
 ghost use lib.ListN.{set};
@@ -63,7 +63,7 @@ fn begins(
         (now (passive .entry)) (now (starts .entry)) (now (near .entry)) (now (coef .entry)) (now (design .entry)) (now (density .entry)) (now (slope .entry))
         r (now (density .exit)) (now (slope .exit)) ⌝ }
 {
-    lent::ask(
+    fronts::ask(
         state,
         state.progress.stage,
         passive,
@@ -108,7 +108,7 @@ fn solves(
         (record { volumes = now (volumes .entry); passive = now (passive .entry); starts = now (starts .entry); near = now (near .entry); coef = now (coef .entry); design = now (design .exit); density = now (density .exit); last = now (last .exit) })
         (record { free = now (free .exit); slope = now (slope .exit); spare = now (spare .exit); dc = now (dc .exit); dv = now (dv .exit) }) ⌝ }
 {
-    let entry = lent::solve(
+    let entry = fronts::solve(
         state,
         energies,
         volumes,
@@ -139,7 +139,7 @@ fn solves(
         }
         Course::Onward => {
             let s = run_verdict::counts::onward_state(state, entry);
-            lent::ask(
+            fronts::ask(
                 state,
                 s.progress.stage,
                 passive,

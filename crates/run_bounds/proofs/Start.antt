@@ -15,17 +15,18 @@ use lib.Ieee.Exact.{round-exact}
 use lib.Ieee.Order.{le-of-values}
 use lib.Ieee.Positive.{positive}
 use Rattle.lists.specs.Lists.{foldTo, sumTo, anyTo, choose, zero64}
-use Rattle.lists.proofs.Laws.{any-not, passes-on, neither, both}
+use Rattle.lists.proofs.Laws.{any-not, neither, both}
 use Rattle.ieee.specs.Basic.{one64}
 use Rattle.ieee.proofs.Basic.{holds}
 use Rattle.ieee.proofs.Order.{le-transitive, le-reflexive}
 use Rattle.ieee.proofs.Bounds.{not-lt-le, lt-le}
-use Rattle.filter.specs.Domain.{volumeBad}
+use Rattle.lent.specs.Domain.{volumeBad}
 use Rattle.oc_goal.specs.Goal.{xMin, noRoom, targetOf, startDensity}
 use Rattle.oc_start.specs.Start.{solidVolume}
 use Rattle.ieee_lanes.proofs.Order.{Plus, Finite, finite-plus, positive-finite, lt-of-lt-of-le, lt-of-le-of-lt, add-plus, add-grows, mul-plus, div-plus, positive-of-tests, round-plus}
 use Rattle.run_plain.specs.Formulas.{sumOf}
 use Rattle.run_plain.specs.Opening.{Opening, elements, solidOf, totalOf, targetAt, fractionBad, firstRefusal}
+use Rattle.run_plain.proofs.Checks.{checked}
 use Rattle.update_rates.proofs.Floats.{finite-below, cross, add-over, sub-is, sub-under, sub-grows, sub-positive, mul-under, div-under}
 use Rattle.update_rates.specs.Keeps.{Range}
 use Rattle.update_rates.proofs.Bounds.{in-range}
@@ -207,40 +208,20 @@ volume-of v h =
     }
 
 module _ (o : Opening) (none : firstRefusal o ≡ 0) where
-  -- the tests that were passed
-  record Passed : Type 0 where
-    marks : not (eqb (length (o .passive)) (elements o)) ≡ false
-    few : ltb 65535 (elements o) ≡ false
-    volumes : anyTo (λ k. volumeBad (getD (o .volumes) k nan)) (elements o) ≡ false
-    fraction : fractionBad (o .goal .fraction) ≡ false
-    room : noRoom (solidOf o) (totalOf o) (targetAt o) ≡ false
-
-  passed : Passed
-  unfolding firstRefusal
-  passed =
-      let p1 = passes-on _ 1 _ (omega arith) none in
-      let p2 = passes-on _ 2 _ (omega arith) (p1 .1) in
-      let p3 = passes-on _ 3 _ (omega arith) (p2 .1) in
-      let p4 = passes-on _ 4 _ (omega arith) (p3 .1) in
-      let p5 = passes-on _ 5 _ (omega arith) (p4 .1) in
-      let p6 = passes-on _ 6 _ (omega arith) (p5 .1) in
-      let p7 = passes-on _ 7 _ (omega arith) (p6 .1) in
-      record { marks = neither (not (eqb (length (o .centroids)) (elements o))) _ (p1 .0) .1; few = p3 .0; volumes = p4 .0; fraction = p5 .0; room = p7 .0 }
-
   pub start-range : Range (startDensity (solidOf o) (totalOf o) (targetAt o))
   unfolding sumOf solidVolume
   start-range =
-      let p = passed in
+      let p = checked o none in
       let n = elements o in
-      let few : n ≤ 2 ^ 16 = (let k : n ≤ 65535 = ltb-false _ _ (p .few) in omega (arith, k)) in
-      let v : (k : ℕ) → k < n → Volume (getD (o .volumes) k nan) = λ k l. volume-of (getD (o .volumes) k nan) (any-not _ n (p .volumes) k l) in
+      let few : n ≤ 2 ^ 16 = (let k : n ≤ 65535 = ltb-false _ _ (p .lists .1 .1 .0) in omega (arith, k)) in
+      let v : (k : ℕ) → k < n → Volume (getD (o .volumes) k nan) = λ k l. volume-of (getD (o .volumes) k nan) (any-not _ n (p .lists .1 .1 .1 .0) k l) in
       let t = sums (λ k. getD (o .volumes) k nan) n few v in
-      let same : min (length (o .volumes)) (length (o .passive)) ≡ n = min-eq-left (le-of-eq (sym (eqb-true _ _ (not-false _ (p .marks))))) in
+      let same : min (length (o .volumes)) (length (o .passive)) ≡ n = min-eq-left (le-of-eq (sym (eqb-true _ _ (not-false _ (neither (not (eqb (length (o .centroids)) (elements o))) _ (p .lists .0) .1))))) in
       let s : Part (λ k. getD (o .volumes) k nan) (solidOf o) (totalOf o) =
       subst (λ (m : ℕ). Part (λ k. getD (o .volumes) k nan) (foldTo (λ k a. choose (getD (o .passive) k false) (add binary64 a (getD (o .volumes) k nan)) a) zero64 m) (totalOf o)) (sym same)
       (parts (λ k. getD (o .volumes) k nan) (λ k. getD (o .passive) k false) n few v) in
       let ct : Finite (totalOf o) = finite-sum (λ k. getD (o .volumes) k nan) n (totalOf o) t in
       let cs : Finite (solidOf o) = finite-below (solidOf o) (ct .m) (ct .e) (s .plus) (subst (λ (z : Float). T (le (solidOf o) z)) (ct .is) (s .under)) in
-      let b = both (lt zero64 (o .goal .fraction)) (lt (o .goal .fraction) one64) (not-false _ (p .fraction)) in
+      let b = both (lt zero64 (o .goal .fraction)) (lt (o .goal .fraction) one64) (not-false _ (p .goal .0)) in
       let r = o .goal .fraction in
-      starts-in (totalOf o) (solidOf o) r ct cs (t .fit) (s .fit) (s .under) (positive-of-tests r (b .0) (lt-of-lt-of-le r one64 (inf false) (b .1) (unfold le ofBits in tt))) (lt-le r one64 (b .1)) (p .room)
+      starts-in (totalOf o) (solidOf o) r ct cs (t .fit) (s .fit) (s .under) (positive-of-tests r (b .0) (lt-of-lt-of-le r one64 (inf false) (b .1) (unfold le ofBits in tt))) (lt-le r one64 (b .1)) (p .goal .1 .1 .0)

@@ -13,11 +13,12 @@ use Rattle.lists.specs.Lists.{tabulate, choose, zero64, overlay}
 use Rattle.lists.proofs.Laws.{neither, choose-false, length-tabulate, getD-tabulate, overwrite-is}
 use Rattle.ieee.specs.Basic.{one64}
 use Rattle.filter.specs.Filter.{start}
-use Rattle.filter.specs.Build.{Lent, Outcome, zeroed, built, numberOf, left, Worked, outcome, Built}
+use Rattle.filter.specs.Build.{Lent, outcome, Built}
+use Rattle.lent.specs.Lent.{Outcome, zeroed, done, numberOf, left, Worked, short}
 use Rattle.run_plain.specs.declared.State.{State}
 use Rattle.run_plain.specs.declared.Reply.the-variants.{Refused}
 use Rattle.run_plain.specs.declared.Entry.the-variants.{Zeroed, Shut, Opens}
-use Rattle.run_plain.specs.Lent.{short, openShort, runShort}
+use Rattle.run_plain.specs.Lent.{openShort, runShort}
 use Rattle.run_plain.specs.Formulas.{ones}
 use Rattle.run_plain.specs.Opening.{Opening, elements, startsOf, nearOf, coefOf, startOf, tableRefusal, firstRefusal, lastly, entryOf}
 use Rattle.run_plain.specs.Calls.{Core, Asked, endedOf, inTurn, openedState}
@@ -32,15 +33,15 @@ use Rattle.run_open.specs.Steps.{Lastly, ShutBy, BegunBy}
 abbrev pub lentOf : List ℕ → List ℕ → List Float → Work → Lent
 lentOf st ne co w = record { starts = st; near = ne; coef = co; cell = w .cell; order = w .order; first = w .first; sorted = w .sorted; stamp = w .stamp; weight = w .weight; found = w .found; bits = w .bits }
 
-zeroed-is : (n : ℕ) → choose (eqb (suc n) 0) built (zeroed (suc n)) ≡ zeroed (suc n)
+zeroed-is : (n : ℕ) → choose (eqb (suc n) 0) done (zeroed (suc n)) ≡ zeroed (suc n)
 zeroed-is n = choose-false _ _ _ (ne-eqb (suc n) 0 (λ e. absurd (omega (arith, e))))
 
-number-is : (t : ℕ) → numberOf (choose (eqb t 0) built (zeroed t)) ≡ t
+number-is : (t : ℕ) → numberOf (choose (eqb t 0) done (zeroed t)) ≡ t
 unfolding choose
 number-is zero = refl
 number-is (suc n) = ap numberOf (zeroed-is n)
 
-built-is : choose (eqb 0 0) built (zeroed 0) ≡ built
+built-is : choose (eqb 0 0) done (zeroed 0) ≡ done
 unfolding choose
 built-is = refl
 
@@ -62,7 +63,7 @@ module _ (s : State) (g : Asked) (room : ℕ) (l : Core) (w : Work) where
     abbrev came : Outcome
     came = outcome (g .centroids) (l .volumes) (g .goal .radius) (g .mirrors) (lentOf (l .starts) (l .near) (l .coef) w)
 
-    comes : came ≡ choose (eqb (tableRefusal o) 0) built (zeroed (tableRefusal o))
+    comes : came ≡ choose (eqb (tableRefusal o) 0) done (zeroed (tableRefusal o))
     comes = outcome-is o (lentOf (l .starts) (l .near) (l .coef) w) (record { starts = refl; near = refl; coef = refl; work = refl }) none
 
     b-is : b ≡ tableRefusal o
@@ -73,7 +74,7 @@ module _ (s : State) (g : Asked) (room : ℕ) (l : Core) (w : Work) where
 
     -- a refusal in a row
     zeroes : (n : ℕ) → b ≡ suc n → came ≡ zeroed (suc n)
-    zeroes n e = comes ∙ ap (λ (t : ℕ). choose (eqb t 0) built (zeroed t)) (sym b-is ∙ e) ∙ zeroed-is n
+    zeroes n e = comes ∙ ap (λ (t : ℕ). choose (eqb t 0) done (zeroed t)) (sym b-is ∙ e) ∙ zeroed-is n
 
     rows-by : (n : ℕ) → b ≡ suc n → CoreOpened s g room l w (record { state = s; reply = Refused b }) (record { volumes = l .volumes; passive = l .passive; starts = st; near = ne; coef = co; design = l .design; density = l .density; last = l .last }) w₁
     unfolding nearOf coefOf
@@ -106,8 +107,8 @@ module _ (s : State) (g : Asked) (room : ℕ) (l : Core) (w : Work) where
 
     -- the table is built
     module _ (zero-b : b ≡ 0) where
-      all : came ≡ built
-      all = comes ∙ ap (λ (t : ℕ). choose (eqb t 0) built (zeroed t)) (sym b-is ∙ zero-b) ∙ built-is
+      all : came ≡ done
+      all = comes ∙ ap (λ (t : ℕ). choose (eqb t 0) done (zeroed t)) (sym b-is ∙ zero-b) ∙ built-is
 
       starts-is : st ≡ overlay (startsOf o) (l .starts)
       unfolding overlay startsOf

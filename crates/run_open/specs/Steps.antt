@@ -9,7 +9,7 @@ use lib.Ieee.{Float}
 use Rattle.lists.specs.Lists.{overwrite}
 use Rattle.ieee.specs.Basic.{one64}
 use Rattle.topo.specs.declared.Goal.{Goal}
-use Rattle.filter_build.specs.Wiped.{Wiped}
+use Rattle.filter_wipe.specs.Wiped.{Wiped}
 use Rattle.oc_start.specs.Start.{solidVolume, startDesign}
 use Rattle.oc_goal.specs.Goal.{targetOf, startDensity}
 use Rattle.run_plain.specs.declared.Reply.the-variants.{Refused, Solid}

@@ -56,7 +56,7 @@ fn lastly(
         (record { cell = now (cell .exit); order = now (order .exit); first = now (first .exit); sorted = now (sorted .exit); stamp = now (stamp .exit); weight = now (weight .exit); found = now (found .exit); bits = now (bits .exit) }) ⌝ }
 {
     if flag {
-        filter_build::wipe_work(cell, order, first, sorted, stamp, weight, found, bits);
+        filter_wipe::wipe_work(cell, order, first, sorted, stamp, weight, found, bits);
         return Returned {
             state: run_plain::ended(state),
             reply: Reply::Refused(15),

@@ -137,13 +137,13 @@ pub fn refusal(
         bits,
     );
     let rest = lists::first(short, 14, 0);
-    let rest = filter::group::refusal(mirrors, rest);
-    let rest = lists::first(filter::domain::centroids_bad(centroids), 9, rest);
-    let rest = lists::first(filter::domain::radius_bad(goal.radius), 8, rest);
+    let rest = filter_group::refusal(mirrors, rest);
+    let rest = lists::first(lent::points_bad(centroids), 9, rest);
+    let rest = lists::first(lent::radius_bad(goal.radius), 8, rest);
     let rest = lists::first(oc_goal::no_room(solid, total, target), 7, rest);
     let rest = lists::first(goal.max_iterations == 0, 6, rest);
     let rest = lists::first(fraction_bad(goal.fraction), 5, rest);
-    lists::first(filter::domain::volumes_bad(volumes), 4, rest)
+    lists::first(lent::volumes_bad(volumes), 4, rest)
 }
 
 // The solid question's densities, 1 for each of n elements.

@@ -18,6 +18,7 @@ use Rattle.oc_seen.specs.Seen.{seenDensity, densities}
 use Rattle.run_plain.specs.declared.Entry.the-variants.{Opens}
 use Rattle.run_plain.specs.Formulas.{Steep, Case, ones, see, givenAt, updateAt}
 use Rattle.run_plain.specs.Opening.{Opening, elements, startsOf, nearOf, coefOf, tableRefusal, firstRefusal, inRows, atFirst, entryOf, startOf}
+use Rattle.run_plain.proofs.Checks.{checked}
 use Rattle.run_plain.proofs.Parts.{Room, open-room}
 use Rattle.update_rates.proofs.Bounds.{length-updated}
 use Rattle.update_rates.proofs.Passes.{passes-at-most}
@@ -97,7 +98,7 @@ rows-room o (suc n) e l h =
     (subst (λ k. k ≤ o .lent .near) q (r .0), subst (λ k. k ≤ o .lent .coef) q (r .1))
 
 -- what the refusals before the rows have seen to
-record Checked (o : Opening) : Type 0 where
+record Fit (o : Opening) : Type 0 where
   centroids : length (o .centroids) ≡ elements o
   passive : length (o .passive) ≡ elements o
   some : 0 < elements o
@@ -105,31 +106,19 @@ record Checked (o : Opening) : Type 0 where
   rounds : 0 < o .goal .«max_iterations»
   room : Room (elements o) (o .goal .«max_iterations») (o .lent)
 
-checked : (o : Opening) → firstRefusal o ≡ 0 → Checked o
-unfolding firstRefusal
-checked o e =
-    let p1 = passes-on _ 1 _ (omega arith) e in
-    let p2 = passes-on _ 2 _ (omega arith) (p1 .1) in
-    let p3 = passes-on _ 3 _ (omega arith) (p2 .1) in
-    let p4 = passes-on _ 4 _ (omega arith) (p3 .1) in
-    let p5 = passes-on _ 5 _ (omega arith) (p4 .1) in
-    let p6 = passes-on _ 6 _ (omega arith) (p5 .1) in
-    let p7 = passes-on _ 7 _ (omega arith) (p6 .1) in
-    let p8 = passes-on _ 8 _ (omega arith) (p7 .1) in
-    let p9 = passes-on _ 9 _ (omega arith) (p8 .1) in
-    let p10 = passes-on _ 10 _ (omega arith) (p9 .1) in
-    let p11 = passes-on _ 11 _ (omega arith) (p10 .1) in
-    let p12 = passes-on _ 12 _ (omega arith) (p11 .1) in
-    let p14 = passes-on _ 14 _ (omega arith) (p12 .1) in
-    let n : elements o ≡ 0 → ⊥ = eqb-false _ _ (p2 .0) in
-    let z : o .goal .«max_iterations» ≡ 0 → ⊥ = eqb-false _ _ (p6 .0) in
+fits : (o : Opening) → firstRefusal o ≡ 0 → Fit o
+fits o e =
+    let c = checked o e in
+    let same = neither (not (eqb (length (o .centroids)) (elements o))) _ (c .lists .0) in
+    let n : elements o ≡ 0 → ⊥ = eqb-false _ _ (c .lists .1 .0) in
+    let z : o .goal .«max_iterations» ≡ 0 → ⊥ = eqb-false _ _ (c .goal .1 .0) in
     record {
-      centroids = eqb-true _ _ (not-false _ (neither (not (eqb (length (o .centroids)) (elements o))) _ (p1 .0) .0));
-      passive = eqb-true _ _ (not-false _ (neither (not (eqb (length (o .centroids)) (elements o))) _ (p1 .0) .1));
+      centroids = eqb-true _ _ (not-false _ (same .0));
+      passive = eqb-true _ _ (not-false _ (same .1));
       some = omega (arith, n);
-      few = ltb-false _ _ (p3 .0);
+      few = ltb-false _ _ (c .lists .1 .1 .0);
       rounds = omega (arith, z);
-      room = open-room _ _ _ (p14 .0);
+      room = open-room _ _ _ (c .mesh .1 .1 .1 .1 .1 .0);
     }
 
 opens-rows : (o : Opening) (n : ℕ) → inRows o n ≡ Opens → n ≡ 0
@@ -144,7 +133,7 @@ pub ready : (o : Opening) → entryOf o ≡ Opens → Ready o
 unfolding entryOf startsOf
 ready o e =
     let p = opens-first o (firstRefusal o) e in
-    let c = checked o (p .0) in
+    let c = fits o (p .0) in
     let m : length (o .centroids) ≡ elements o = c .centroids in
     let r = rows-room o (length (o .centroids)) refl (omega (arith, c .some)) (p .1) in
     record { passive = c .passive; few = c .few; rounds = c .rounds; starts = length-tabulate _ _ ∙ omega arith; coef = coef-long o; near = r .0; near-coef = r .1; room = c .room }

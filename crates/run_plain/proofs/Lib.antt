@@ -1,4 +1,5 @@
--- `Parts`: lists that are lent in part. `Formulas`: lengths and counts of what the formulas make.
+-- `Checks`: what an opening's tests see to. `Parts`: lists that are lent in part. `Formulas`: lengths and counts of what the formulas make.
+pub mod Checks
 pub mod Parts
 pub mod Formulas
 pub mod Counts

@@ -9,7 +9,8 @@ use lib.Seq.{take-take, take-append-le, take-all, take-suc-set}
 use borrow.Author.Tests.{ltb-false}
 use Rattle.lists.specs.Lists.{overlay}
 use Rattle.lists.proofs.Laws.{neither}
-use Rattle.run_plain.specs.Lent.{Sizes, short, runShort, openShort, answerShort}
+use Rattle.run_plain.specs.Lent.{Sizes, runShort, openShort, answerShort}
+use Rattle.lent.specs.Lent.{short}
 
 module _ {A : Type 0} where
   pub take-part : (n k : ℕ) (l : List A) → n ≤ length (take k l) → take n (take k l) ≡ take n l

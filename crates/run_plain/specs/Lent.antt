@@ -1,9 +1,9 @@
 -- Lists that are lent to a call, and how long they must be. Definitions only.
-use mathlib.Core.Bool.{Bool, false, _||_}
+use mathlib.Core.Bool.{Bool, _||_}
 use mathlib.Core.List.{List, [], _∷_}
 use Prim.Native.Nat.{ℕ, suc}
-use lib.Dec.{ltb}
-use Rattle.filter.specs.Build.{words}
+use Rattle.lent.specs.Lent.{short}
+use Rattle.filter.specs.Build.{workNeeded}
 
 -- how long each list of a call is that it may write or that an answer reads; `work` has those of the working lists
 pub record Sizes : Type 0 where
@@ -18,15 +18,9 @@ pub record Sizes : Type 0 where
   pub history : ℕ
   pub work : List ℕ
 
--- one of the lengths is below what is needed there
-unfoldable pub short : List ℕ → List ℕ → Bool
-short (k ∷ lengths) (n ∷ needed) = ltb k n || short lengths needed
-short [] needed = false
-short (k ∷ lengths) [] = false
-
 -- "working lists as docs/ fixes them": the opening's are the filter's, an answer's are five of one place an element
 abbrev pub openWork : ℕ → List ℕ
-openWork n = n ∷ n ∷ suc n ∷ n ∷ n ∷ n ∷ n ∷ words ∷ []
+openWork n = workNeeded n
 
 abbrev pub answerWork : ℕ → List ℕ
 answerWork n = n ∷ n ∷ n ∷ n ∷ n ∷ []

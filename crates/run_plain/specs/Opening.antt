@@ -1,17 +1,16 @@
 -- 01, "What a refusal hands back": what an opening checks, and the filter that it builds. Definitions only.
 use mathlib.Core.Bool.{Bool, true, false, not, _&&_, _||_}
-use mathlib.Core.List.{List, []}
+use mathlib.Core.List.{List, [], _∷_, _++_}
 use Prim.Native.Nat.{ℕ, zero, suc, _+_}
-use lib.ListN.{length, getD}
-use lib.Dec.{ltb, eqb}
-use lib.Ieee.{Float, nan, lt}
-use Rattle.lists.specs.Lists.{tabulate, anyTo, choose, zero64}
+use lib.ListN.{length}
+use lib.Dec.{eqb}
+use lib.Ieee.{Float, lt}
+use Rattle.lists.specs.Lists.{tabulate, zero64}
 use Rattle.ieee.specs.Basic.{one64}
 use Rattle.topo.specs.declared.Goal.{Goal}
-use Rattle.filter.specs.Domain.{volumeBad, radiusBad, centroidBad}
-use Rattle.filter.specs.Group.{planesBad, planesSkew}
+use Rattle.lent.specs.Refusals.{Test, firstOf}
 use Rattle.filter.specs.Filter.{neighbours, start, coefficients}
-use Rattle.filter.specs.Build.{rowsRefusal}
+use Rattle.filter.specs.Build.{rowsRefusal, countTests, filterTests}
 use Rattle.oc_goal.specs.Goal.{noRoom, targetOf, startDensity}
 use Rattle.oc_start.specs.Start.{solidVolume, startDesign}
 use Rattle.run_plain.specs.declared.Entry.{Entry}
@@ -60,22 +59,20 @@ module _ (o : Opening) where
   unfoldable pub tableRefusal : ℕ
   tableRefusal = rowsRefusal (o .centroids) (o .goal .radius) (o .mirrors) (o .lent .near) (o .lent .coef) (length (o .centroids))
 
+  -- 1 to 4, and 8 to 12 with the first 14: as in a build of the filter
+  abbrev pub listTests : List Test
+  listTests = countTests (not (eqb (length (o .centroids)) elements) || not (eqb (length (o .passive)) elements)) elements (o .volumes)
+
+  abbrev pub meshTests : List Test
+  meshTests = filterTests (o .centroids) (o .goal .radius) (o .mirrors) (openShort elements (o .goal .«max_iterations») (o .lent))
+
+  -- 5 to 7: an opening's own
+  abbrev pub goalTests : List Test
+  goalTests = (fractionBad (o .goal .fraction), 5) ∷ (eqb (o .goal .«max_iterations») 0, 6) ∷ (noRoom solidOf totalOf targetAt, 7) ∷ []
+
   -- what the opening is refused with before the rows, 0 for none: "1 to 13 in order, but the first 14 comes after 12"
   unfoldable pub firstRefusal : ℕ
-  firstRefusal =
-      choose (not (eqb (length (o .centroids)) elements) || not (eqb (length (o .passive)) elements)) 1
-      (choose (eqb elements 0) 2
-      (choose (ltb 65535 elements) 3
-      (choose (anyTo (λ k. volumeBad (getD (o .volumes) k nan)) elements) 4
-      (choose (fractionBad (o .goal .fraction)) 5
-      (choose (eqb (o .goal .«max_iterations») 0) 6
-      (choose (noRoom solidOf totalOf targetAt) 7
-      (choose (radiusBad (o .goal .radius)) 8
-      (choose (anyTo (λ k. centroidBad (getD (o .centroids) k [])) elements) 9
-      (choose (ltb 3 (length (o .mirrors))) 10
-      (choose (planesBad (o .mirrors)) 11
-      (choose (planesSkew (o .mirrors)) 12
-      (choose (openShort elements (o .goal .«max_iterations») (o .lent)) 14 0))))))))))))
+  firstRefusal = firstOf (listTests ++ goalTests ++ meshTests)
 
   -- a refusal before the rows keeps all; one in a row zeroes; "Last it looks at the flag"
   abbrev pub lastly : Bool → Entry

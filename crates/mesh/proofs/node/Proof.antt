@@ -3,7 +3,8 @@ use mathlib.Core.Path.{_≡_, ap, sym, _∙_}
 use mathlib.Core.List.{[]}
 use lib.ListN.{getD, List·getD-eq-default}
 use Rattle.lists.proofs.Laws.{getD-any}
-use Rattle.mesh.specs.Mesh.{point, stored, origin, nodeAt}
+use Rattle.lent.specs.Points.{point, stored}
+use Rattle.mesh.specs.Mesh.{origin, nodeAt}
 use borrow.Author.Needs.{needs}
 use Rattle.mesh.proofs.node.Statement.{statement}
 use Rattle.mesh.proofs.node.Tie as tie

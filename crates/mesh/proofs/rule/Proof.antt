@@ -8,94 +8,94 @@ use Rattle.mesh.proofs.rule.Statement.{statement}
 use Rattle.mesh.proofs.rule.Tie as tie
 
 corner-requires : tie.Need-corner-requires
-corner-requires c κs = search needs
+corner-requires c κs = tt
 
 corner-requires-2 : tie.Need-corner-requires-2
-corner-requires-2 c κs = search needs
+corner-requires-2 c κs = tt
 
 corner-requires-3 : tie.Need-corner-requires-3
-corner-requires-3 c κs = search needs
+corner-requires-3 c κs = tt
 
 corner-requires-4 : tie.Need-corner-requires-4
-corner-requires-4 c κs = search needs
+corner-requires-4 c κs = tt
 
 middle-requires : tie.Need-middle-requires
-middle-requires c κs = search needs
+middle-requires c κs = tt
 
 middle-requires-2 : tie.Need-middle-requires-2
-middle-requires-2 c κs = search needs
+middle-requires-2 c κs = tt
 
 middle-requires-3 : tie.Need-middle-requires-3
-middle-requires-3 c κs = search needs
+middle-requires-3 c κs = tt
 
 middle-requires-4 : tie.Need-middle-requires-4
-middle-requires-4 c κs = search needs
+middle-requires-4 c κs = tt
 
 middle-requires-5 : tie.Need-middle-requires-5
-middle-requires-5 c κs = search needs
+middle-requires-5 c κs = tt
 
 middle-requires-6 : tie.Need-middle-requires-6
-middle-requires-6 c κs = search needs
+middle-requires-6 c κs = tt
 
 moves-requires : tie.Need-moves-requires
-moves-requires c κs = search needs
+moves-requires c κs = tt
 
 moves-requires-2 : tie.Need-moves-requires-2
-moves-requires-2 c κs = search needs
+moves-requires-2 c κs = tt
 
 moves-requires-3 : tie.Need-moves-requires-3
-moves-requires-3 c κs = search needs
+moves-requires-3 c κs = tt
 
 moves-requires-4 : tie.Need-moves-requires-4
-moves-requires-4 c κs = search needs
+moves-requires-4 c κs = tt
 
 share-requires : tie.Need-share-requires
-share-requires c κs = search needs
+share-requires c κs = tt
 
 moves-requires-5 : tie.Need-moves-requires-5
-moves-requires-5 c κs = search needs
+moves-requires-5 c κs = tt
 
 moves-requires-6 : tie.Need-moves-requires-6
-moves-requires-6 c κs = search needs
+moves-requires-6 c κs = tt
 
 moves-requires-7 : tie.Need-moves-requires-7
-moves-requires-7 c κs = search needs
+moves-requires-7 c κs = tt
 
 moves-requires-8 : tie.Need-moves-requires-8
-moves-requires-8 c κs = search needs
+moves-requires-8 c κs = tt
 
 share-requires-2 : tie.Need-share-requires-2
-share-requires-2 c κs = search needs
+share-requires-2 c κs = tt
 
 moves-requires-9 : tie.Need-moves-requires-9
-moves-requires-9 c κs = search needs
+moves-requires-9 c κs = tt
 
 moves-requires-10 : tie.Need-moves-requires-10
-moves-requires-10 c κs = search needs
+moves-requires-10 c κs = tt
 
 moves-requires-11 : tie.Need-moves-requires-11
-moves-requires-11 c κs = search needs
+moves-requires-11 c κs = tt
 
 moves-requires-12 : tie.Need-moves-requires-12
-moves-requires-12 c κs = search needs
+moves-requires-12 c κs = tt
 
 share-requires-3 : tie.Need-share-requires-3
-share-requires-3 c κs = search needs
+share-requires-3 c κs = tt
 
 moves-requires-13 : tie.Need-moves-requires-13
-moves-requires-13 c κs = search needs
+moves-requires-13 c κs = tt
 
 moves-requires-14 : tie.Need-moves-requires-14
-moves-requires-14 c κs = search needs
+moves-requires-14 c κs = tt
 
 moves-requires-15 : tie.Need-moves-requires-15
-moves-requires-15 c κs = search needs
+moves-requires-15 c κs = tt
 
 moves-requires-16 : tie.Need-moves-requires-16
-moves-requires-16 c κs = search needs
+moves-requires-16 c κs = tt
 
 share-requires-4 : tie.Need-share-requires-4
-share-requires-4 c κs = search needs
+share-requires-4 c κs = tt
 
 returns : tie.Need-returns
 unfolding ruleOf shareAt moves

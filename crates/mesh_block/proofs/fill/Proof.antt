@@ -1,11 +1,12 @@
 -- `mesh_block::fill` meets its contract: where nothing is refused the lists are long enough (`Refusals`), and the calls' promises are the contract's. Assumes nothing.
-use mathlib.Core.Path.{refl, sym, ap, _∙_}
-use mathlib.Core.Bool.{true}
+use mathlib.Core.Path.{_≡_, refl, sym, ap, _∙_}
+use Prim.Native.Nat.{ℕ, _≤_, _<_}
 use native.Mathlib.Omega.{arith}
 use native.Mathlib.Nat.{le-trans}
 use lib.ListN.{length}
-use Rattle.lists.proofs.Bools.{at-most-zero, positive-is-not-zero}
-use Rattle.lists.proofs.Laws.{choose-true, choose-false, length-overwrite}
+use Rattle.lists.proofs.Bools.{at-most-zero}
+use Rattle.lists.proofs.Laws.{length-overwrite}
+use Rattle.lent.proofs.Lent.{unless-refused, unless-accepted}
 use Rattle.mesh_lattice.specs.Lattice.{tetsIn, tetOf}
 use Rattle.mesh_lattice.specs.Bounds.{Small}
 use Rattle.mesh_lattice.proofs.Lists.{overwrite-again}
@@ -16,10 +17,13 @@ use borrow.Author.Needs.{needs}
 use Rattle.mesh_block.proofs.fill.Statement.{statement}
 use Rattle.mesh_block.proofs.fill.Tie as tie
 
+positive : (r : ℕ) → 0 < r → r ≡ 0 → ⊥
+positive r h z = omega arith
+
 -- where nothing is refused
 module _ (c : tie.Else1) where
   ok : Accepted (c .before .before .before .before .args .g) (length (c .before .before .before .before .args .nodes .now)) (length (c .before .before .before .before .args .tets .now)) (length (c .before .before .before .before .args .surfaces .now)) (length (c .before .before .before .before .args .tris .now)) (length (c .before .before .before .before .args .edges .now))
-  ok = accepted _ _ _ _ _ _ (sym (c .before .refusal .ensures) ∙ at-most-zero _ (c .if1 .left))
+  ok = accepted _ _ _ _ _ _ (sym (c .before .refusal .ensures) ∙ none _ (c .if1 .left))
 
   small : Small (c .before .before .before .before .args .g)
   small = small-of _ (c .before .before .before .before .pre) (ok .few-tets)
@@ -28,17 +32,17 @@ refusal-requires : tie.Need-refusal-requires
 refusal-requires c κs = search needs
 
 returns : tie.Need-returns
-returns c = let no = positive-is-not-zero (c .before .refusal .result) (c .if1 .taken) in
+returns c = let no = positive (c .before .refusal .result) (c .if1 .taken) in
     record {
       refusal = c .before .refusal .ensures;
-      node-count = sym (choose-false _ _ _ no);
-      tet-count = sym (choose-false _ _ _ no);
-      tri-count = sym (choose-false _ _ _ no);
-      nodes-are = sym (choose-false _ _ _ no);
-      tets-are = sym (choose-false _ _ _ no);
-      surfaces-are = sym (choose-false _ _ _ no);
-      tris-are = sym (choose-false _ _ _ no);
-      edges-are = sym (choose-false _ _ _ no);
+      node-count = unless-refused _ _ _ no;
+      tet-count = unless-refused _ _ _ no;
+      tri-count = unless-refused _ _ _ no;
+      nodes-are = unless-refused _ _ _ no;
+      tets-are = unless-refused _ _ _ no;
+      surfaces-are = unless-refused _ _ _ no;
+      tris-are = unless-refused _ _ _ no;
+      edges-are = unless-refused _ _ _ no;
     }
 
 build-requires : tie.Need-build-requires
@@ -86,14 +90,14 @@ returns-2 c = let b = c .before .before .before .before .before .before .before 
     let t = c .before .before .before .before .triangles .ensures in
     record {
       refusal = sym (at-most-zero _ (c .before .before .before .before .before .before .before .before .before .before .before .before .before .before .before .before .if1 .left)) ∙ c .before .before .before .before .before .before .before .before .before .before .before .before .before .before .before .before .before .refusal .ensures;
-      node-count = b .next-is ∙ sym (choose-true true _ 0 refl);
-      tet-count = c .tet-count .ensures ∙ sym (choose-true true _ 0 refl);
-      tri-count = t .next-is ∙ sym (choose-true true _ 0 refl);
-      nodes-are = b .nodes-are ∙ sym (choose-true true _ (c .before .before .before .before .before .before .before .before .before .before .before .before .before .before .before .before .before .before .before .before .args .nodes .now) refl);
-      tets-are = b .tets-are ∙ sym (choose-true true _ (c .before .before .before .before .before .before .before .before .before .before .before .before .before .before .before .before .before .before .before .before .args .tets .now) refl);
-      surfaces-are = t .surfaces-are ∙ sym (choose-true true _ (c .before .before .before .before .before .before .before .before .before .before .before .before .before .before .before .before .before .before .before .before .args .surfaces .now) refl);
-      tris-are = t .tris-are ∙ sym (choose-true true _ (c .before .before .before .before .before .before .before .before .before .before .before .before .before .before .before .before .before .before .before .before .args .tris .now) refl);
-      edges-are = b .edges-are ∙ sym (choose-true true _ (c .before .before .before .before .before .before .before .before .before .before .before .before .before .before .before .before .before .before .before .before .args .edges .now) refl);
+      node-count = b .next-is ∙ unless-accepted 0 _ 0 refl;
+      tet-count = c .tet-count .ensures ∙ unless-accepted 0 _ 0 refl;
+      tri-count = t .next-is ∙ unless-accepted 0 _ 0 refl;
+      nodes-are = b .nodes-are ∙ unless-accepted 0 _ (c .before .before .before .before .before .before .before .before .before .before .before .before .before .before .before .before .before .before .before .before .args .nodes .now) refl;
+      tets-are = b .tets-are ∙ unless-accepted 0 _ (c .before .before .before .before .before .before .before .before .before .before .before .before .before .before .before .before .before .before .before .before .args .tets .now) refl;
+      surfaces-are = t .surfaces-are ∙ unless-accepted 0 _ (c .before .before .before .before .before .before .before .before .before .before .before .before .before .before .before .before .before .before .before .before .args .surfaces .now) refl;
+      tris-are = t .tris-are ∙ unless-accepted 0 _ (c .before .before .before .before .before .before .before .before .before .before .before .before .before .before .before .before .before .before .before .before .args .tris .now) refl;
+      edges-are = b .edges-are ∙ unless-accepted 0 _ (c .before .before .before .before .before .before .before .before .before .before .before .before .before .before .before .before .before .before .before .before .args .edges .now) refl;
     }
 
 pub fill-spec : {M : Type 1} → statement M

@@ -9,7 +9,8 @@ use lib.ListN.{length}
 use Rattle.lists.proofs.Bools.{or-left}
 use Rattle.lists.proofs.Laws.{choose-true, choose-false}
 use Rattle.mesh_lattice.specs.Lattice.{tetsIn, nodesIn, slotsIn}
-use Rattle.mesh_block.specs.Block.{trianglesIn, tooMany, refusalOf}
+use Rattle.mesh_triangles.specs.Triangles.{trianglesIn}
+use Rattle.mesh_block.specs.Block.{tooMany, refusalOf}
 use Rattle.mesh_lattice.specs.Bounds.{Small}
 use Rattle.mesh_lattice.proofs.Numbers.{small-of}
 use Rattle.mesh_block.proofs.Refusals.{or-second}
@@ -66,12 +67,12 @@ returns-2 : tie.Need-returns-2
 unfolding refusalOf
 returns-2 c = sym (choose-true _ _ _ (sym (many (c .before)) ∙ c .if2 .taken))
 
-outside-requires : tie.Need-outside-requires
-outside-requires c κs = search needs
+point-bad-requires : tie.Need-point-bad-requires
+point-bad-requires c κs = search needs
 
 returns-3 : tie.Need-returns-3
 unfolding refusalOf
-returns-3 c = sym (choose-false _ _ _ (sym (many (c .before .before .before .before)) ∙ c .before .before .before .if2 .left) ∙ choose-true _ _ _ (sym (c .before .outside .ensures) ∙ c .if3 .taken))
+returns-3 c = sym (choose-false _ _ _ (sym (many (c .before .before .before .before)) ∙ c .before .before .before .if2 .left) ∙ choose-true _ _ _ (sym (c .before .point-bad .ensures) ∙ c .if3 .taken))
 
 tet-count-requires : tie.Need-tet-count-requires
 tet-count-requires c κs = small (c .before .before .before .before .before .before)
@@ -84,11 +85,11 @@ mul-if4 c = omega (arith, c .corner-count .ensures, small (c .before .before .be
 
 returns-4 : tie.Need-returns-4
 unfolding refusalOf
-returns-4 c = sym (choose-false _ _ _ (sym (many (c .before .before .before .before .before .before .before)) ∙ c .before .before .before .before .before .before .if2 .left) ∙ choose-false _ _ _ (sym (c .before .before .before .before .outside .ensures) ∙ c .before .before .before .if3 .left) ∙ choose-true _ _ _ (sym (short (c .before)) ∙ c .if4 .taken))
+returns-4 c = sym (choose-false _ _ _ (sym (many (c .before .before .before .before .before .before .before)) ∙ c .before .before .before .before .before .before .if2 .left) ∙ choose-false _ _ _ (sym (c .before .before .before .before .point-bad .ensures) ∙ c .before .before .before .if3 .left) ∙ choose-true _ _ _ (sym (short (c .before)) ∙ c .if4 .taken))
 
 returns-5 : tie.Need-returns-5
 unfolding refusalOf
-returns-5 c = sym (choose-false _ _ _ (sym (many (c .before .before .before .before .before .before .before)) ∙ c .before .before .before .before .before .before .if2 .left) ∙ choose-false _ _ _ (sym (c .before .before .before .before .outside .ensures) ∙ c .before .before .before .if3 .left) ∙ choose-false _ _ _ (sym (short (c .before)) ∙ c .if4 .left))
+returns-5 c = sym (choose-false _ _ _ (sym (many (c .before .before .before .before .before .before .before)) ∙ c .before .before .before .before .before .before .if2 .left) ∙ choose-false _ _ _ (sym (c .before .before .before .before .point-bad .ensures) ∙ c .before .before .before .if3 .left) ∙ choose-false _ _ _ (sym (short (c .before)) ∙ c .if4 .left))
 
 pub refusal-spec : {M : Type 1} → statement M
 refusal-spec =
@@ -99,7 +100,7 @@ refusal-spec =
     node-count-requires
     count-requires
     returns-2
-    outside-requires
+    point-bad-requires
     returns-3
     tet-count-requires
     corner-count-requires

@@ -6,7 +6,7 @@ use native.Mathlib.Nat.{min-le-left}
 use lib.ListN.{getD, set}
 use lib.Seq.{getD-set-same}
 use Rattle.geom.specs.declared.Vec3.{Vec3}
-use Rattle.mesh.specs.Mesh.{stored}
+use Rattle.lent.specs.Points.{stored}
 use Rattle.mesh_lattice.specs.declared.Grid.{Grid}
 use Rattle.mesh_lattice.specs.Lattice.{Edge, edge, slotsIn}
 use Rattle.mesh_lattice.specs.Filing.{strides, indexIn, slotOf, between}

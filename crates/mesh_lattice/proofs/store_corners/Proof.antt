@@ -6,7 +6,7 @@ use native.Mathlib.Omega.{arith}
 use lib.ListN.{length, set, length-set}
 use Rattle.lists.specs.Lists.{overwrite}
 use Rattle.lists.proofs.Laws.{overwrite-none, overwrite-more}
-use Rattle.mesh.specs.Mesh.{stored}
+use Rattle.lent.specs.Points.{stored}
 use Rattle.mesh_lattice.specs.Lattice.{cornersIn, placeOf, nodeWith}
 use Rattle.mesh_lattice.specs.Bounds.{Inside}
 use Rattle.mesh_lattice.proofs.Ways.{corner-inside}

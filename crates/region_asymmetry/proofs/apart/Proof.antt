@@ -5,8 +5,8 @@ use native.Mathlib.Omega.{arith}
 use lib.ListN.{length}
 use Rattle.lists.specs.Lists.{tabulate}
 use Rattle.region_tree.specs.Tree.{treeOf}
-use Rattle.region_asymmetry.specs.Asymmetry.{facesOf, isCorner, wholeTree}
-use Rattle.region_asymmetry.proofs.Farthest.{far-is}
+use Rattle.region_farthest.specs.Farthest.{facesOf, isCorner, wholeTree}
+use Rattle.region_farthest.proofs.Farthest.{far-is}
 use borrow.Author.Needs.{needs}
 use Rattle.region_asymmetry.proofs.apart.Statement.{statement}
 use Rattle.region_asymmetry.proofs.apart.Tie as tie

@@ -6,8 +6,9 @@ use lib.Seq.{length-take-le}
 use Rattle.lists.proofs.Bools.{at-most-zero}
 use Rattle.region_asymmetry.specs.Asymmetry.{lent, tooShort}
 use Rattle.region_asymmetry.specs.declared.Distance.the-variants.{Refused, Apart}
-use Rattle.region_asymmetry.proofs.Farthest.{none-apart}
-use Rattle.region_asymmetry.proofs.Lent.{long, positive, answer-refused, answer-apart, worked-same, worked-front}
+use Rattle.region_farthest.proofs.Farthest.{none-apart}
+use Rattle.lent.proofs.Lent.{worked-same, worked-front}
+use Rattle.region_asymmetry.proofs.Lent.{long, positive, answer-refused, answer-apart}
 use borrow.Author.Needs.{needs}
 use Rattle.region_asymmetry.proofs.asymmetry.Statement.{statement}
 use Rattle.region_asymmetry.proofs.asymmetry.Tie as tie

@@ -16,16 +16,16 @@ returns-2 : tie.Need-returns-2
 unfolding refusalOf
 returns-2 c = sym (choose-false _ _ _ (c .before .before .if1 .left) ∙ choose-true _ _ _ (sym (c .before .any-missing .ensures) ∙ c .if2 .taken))
 
-any-outside-requires : tie.Need-any-outside-requires
-any-outside-requires c κs = tt
+points-bad-requires : tie.Need-points-bad-requires
+points-bad-requires c κs = tt
 
 returns-3 : tie.Need-returns-3
 unfolding refusalOf
-returns-3 c = sym (choose-false _ _ _ (c .before .before .before .before .if1 .left) ∙ choose-false _ _ _ (sym (c .before .before .before .any-missing .ensures) ∙ c .before .before .if2 .left) ∙ choose-true _ _ _ (sym (c .before .any-outside .ensures) ∙ c .if3 .taken))
+returns-3 c = sym (choose-false _ _ _ (c .before .before .before .before .if1 .left) ∙ choose-false _ _ _ (sym (c .before .before .before .any-missing .ensures) ∙ c .before .before .if2 .left) ∙ choose-true _ _ _ (sym (c .before .points-bad .ensures) ∙ c .if3 .taken))
 
 returns-4 : tie.Need-returns-4
 unfolding refusalOf
-returns-4 c = sym (choose-false _ _ _ (c .before .before .before .before .if1 .left) ∙ choose-false _ _ _ (sym (c .before .before .before .any-missing .ensures) ∙ c .before .before .if2 .left) ∙ choose-false _ _ _ (sym (c .before .any-outside .ensures) ∙ c .if3 .left))
+returns-4 c = sym (choose-false _ _ _ (c .before .before .before .before .if1 .left) ∙ choose-false _ _ _ (sym (c .before .before .before .any-missing .ensures) ∙ c .before .before .if2 .left) ∙ choose-false _ _ _ (sym (c .before .points-bad .ensures) ∙ c .if3 .left))
 
 pub refusal-spec : {M : Type 1} → statement M
-refusal-spec = tie.close (tie.spec returns any-missing-requires returns-2 any-outside-requires returns-3 returns-4)
+refusal-spec = tie.close (tie.spec returns any-missing-requires returns-2 points-bad-requires returns-3 returns-4)

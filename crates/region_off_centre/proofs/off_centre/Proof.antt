@@ -11,7 +11,7 @@ use Rattle.lists.specs.Lists.{foldTo}
 use Rattle.lists.proofs.Bools.{at-most-zero}
 use Rattle.lists.proofs.Laws.{foldTo-more, choose-true, choose-false}
 use Rattle.ieee.specs.Basic.{minOf, maxOf}
-use Rattle.mesh.specs.Mesh.{point}
+use Rattle.lent.specs.Points.{point}
 use Rattle.region_off_centre.specs.OffCentre.{reachOf, lowest, highest, balanceOf, refusalOf, offCentreOf}
 use Rattle.region_off_centre.specs.declared.Balance.the-variants.{Refused}
 use Rattle.region_off_centre.proofs.off_centre.Statement.{statement}

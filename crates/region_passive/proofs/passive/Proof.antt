@@ -11,7 +11,7 @@ abbrev problem : (s : tie.Start) → Problem
 problem s = let a = s .args in record { nodes = now (a .nodes); tets = now (a .tets); tris = now (a .tris); surfaces = now (a .surfaces); held = now (a .held); loaded = now (a .loaded); starts = now (a .starts); kept = now (a .kept); depths = now (a .depths) }
 
 abbrev lent : (s : tie.Start) → Lent
-lent s = let a = s .args in record { marks = now (a .marks); keep = now (a .keep); middles = now (a .middles); cells = now (a .cells); order = now (a .order); place = now (a .place); first = now (a .first) }
+lent s = let a = s .args in record { marks = now (a .marks); keep = now (a .keep); centroids = now (a .centroids); cells = now (a .cells); order = now (a .order); place = now (a .place); first = now (a .first) }
 
 -- the number is the refusal's
 is : (c : tie.After-refusal) → c .refusal .result ≡ refusalOf (problem (c .before .before .before .before .before .before .before .before .before .before .before .before .before)) (lent (c .before .before .before .before .before .before .before .before .before .before .before .before .before))
@@ -56,7 +56,7 @@ same-length-7 c = c .before .before .before .before .before .before .before .bef
 returns-2 : tie.Need-returns-2
 returns-2 c = let s = c .before .before .before .before .before .before .before .before .before .before .before .before .before .before .before .before .before .before .before .before .before .before .before .before .before .before .before .before .before .before .before .before .before .before in
     let t = c .before .before .before .before .before .before .before .before .before .before .before .before .mark-front in
-    accepted (problem s) (lent s) (record { marks = t .last .1 .1 .1 .1 .1 .1 .1 .1 .1 .0; keep = t .last .1 .1 .1 .1 .1 .1 .1 .1 .1 .1 .0; middles = t .last .1 .1 .1 .1 .1 .1 .1 .1 .1 .1 .1 .0; cells = t .last .1 .1 .1 .1 .1 .1 .1 .1 .1 .1 .1 .1 .0; order = t .last .1 .1 .1 .1 .1 .1 .1 .1 .1 .1 .1 .1 .1 .0; place = t .last .1 .1 .1 .1 .1 .1 .1 .1 .1 .1 .1 .1 .1 .1 .0; first = t .last .1 .1 .1 .1 .1 .1 .1 .1 .1 .1 .1 .1 .1 .1 .1 .0 }) (sym (none (c .before .before .before .before .before .before .before .before .before .before .before .before .before .before .before .before .before .before .before .before))) (t .ensures .0) (t .ensures .1) (t .kept .1 .1 .1 .1 .1 .1 .1 .1 .1 .1 .0) (t .kept .1 .1 .1 .1 .1 .1 .1 .1 .1 .1 .1 .0) (t .kept .1 .1 .1 .1 .1 .1 .1 .1 .1 .1 .1 .1 .0) (t .kept .1 .1 .1 .1 .1 .1 .1 .1 .1 .1 .1 .1 .1 .0) (t .kept .1 .1 .1 .1 .1 .1 .1 .1 .1 .1 .1 .1 .1 .1 .0) (t .kept .1 .1 .1 .1 .1 .1 .1 .1 .1 .1 .1 .1 .1 .1 .1 .0)
+    accepted (problem s) (lent s) (record { marks = t .last .1 .1 .1 .1 .1 .1 .1 .1 .1 .0; keep = t .last .1 .1 .1 .1 .1 .1 .1 .1 .1 .1 .0; centroids = t .last .1 .1 .1 .1 .1 .1 .1 .1 .1 .1 .1 .0; cells = t .last .1 .1 .1 .1 .1 .1 .1 .1 .1 .1 .1 .1 .0; order = t .last .1 .1 .1 .1 .1 .1 .1 .1 .1 .1 .1 .1 .1 .0; place = t .last .1 .1 .1 .1 .1 .1 .1 .1 .1 .1 .1 .1 .1 .1 .0; first = t .last .1 .1 .1 .1 .1 .1 .1 .1 .1 .1 .1 .1 .1 .1 .1 .0 }) (sym (none (c .before .before .before .before .before .before .before .before .before .before .before .before .before .before .before .before .before .before .before .before))) (t .ensures .0) (t .ensures .1) (t .kept .1 .1 .1 .1 .1 .1 .1 .1 .1 .1 .0) (t .kept .1 .1 .1 .1 .1 .1 .1 .1 .1 .1 .1 .0) (t .kept .1 .1 .1 .1 .1 .1 .1 .1 .1 .1 .1 .1 .0) (t .kept .1 .1 .1 .1 .1 .1 .1 .1 .1 .1 .1 .1 .1 .0) (t .kept .1 .1 .1 .1 .1 .1 .1 .1 .1 .1 .1 .1 .1 .1 .0) (t .kept .1 .1 .1 .1 .1 .1 .1 .1 .1 .1 .1 .1 .1 .1 .1 .0)
 
 pub passive-spec : {M : Type 1} → statement M
 passive-spec =

@@ -40,8 +40,8 @@ first-requires c κs = search needs
 refusal-requires : tie.Need-refusal-requires
 refusal-requires c κs = search needs
 
-centroids-bad-requires : tie.Need-centroids-bad-requires
-centroids-bad-requires c κs = search needs
+points-bad-requires : tie.Need-points-bad-requires
+points-bad-requires c κs = search needs
 
 first-requires-2 : tie.Need-first-requires-2
 first-requires-2 c κs = search needs
@@ -76,7 +76,7 @@ first-requires-7 c κs = search needs
 returns-4 : tie.Need-returns-4
 returns-4 c = let a = c .before .before .before .before .before .before .before .before .before .before .before .before .before .before .before .before .before .before .before .before .before .before .before .args in
     let o = opening (a .goal) (a .flag) (now (a .volumes)) (now (a .centroids)) (now (a .passive)) (now (a .mirrors)) (a .starts) (a .near) (a .coef) (a .design) (a .density) (a .last) (a .history) (a .cell ∷ a .order ∷ a .first ∷ a .sorted ∷ a .stamp ∷ a .weight ∷ a .found ∷ a .bits ∷ []) in
-    rest-is o _ _ _ _ _ _ _ _ _ _ _ _ _ _ _ _ _ (c .before .before .before .before .before .before .before .before .before .before .before .before .before .before .before .before .before .before .before .before .if1 .left) (c .before .before .before .before .before .before .before .before .before .before .before .before .before .before .before .before .before .before .before .if2 .left) (c .before .before .before .before .before .before .before .before .before .before .before .before .before .before .before .before .before .before .if3 .left) (c .before .before .before .before .before .before .before .before .before .before .before .before .before .before .before .before .before .sum .ensures) (c .before .before .before .before .before .before .before .before .before .before .before .before .before .before .before .before .solid-volume .ensures) (c .before .before .before .before .before .before .before .before .before .before .before .before .before .before .before .target .ensures) (c .before .before .before .before .before .before .before .before .before .before .before .before .before .before .too-short .ensures) (c .before .before .before .before .before .before .before .before .before .before .before .before .before .first .ensures) (c .before .before .before .before .before .before .before .before .before .before .before .before .refusal .ensures) (c .before .before .before .before .before .before .before .before .before .before .before .centroids-bad .ensures) (c .before .before .before .before .before .before .before .before .before .before .first2 .ensures) (c .before .before .before .before .before .before .before .before .before .radius-bad .ensures) (c .before .before .before .before .before .before .before .before .first3 .ensures) (c .before .before .before .before .before .before .before .no-room .ensures) (c .before .before .before .before .before .before .first4 .ensures) (c .before .before .before .before .first5 .ensures) (c .before .before .before .fraction-bad .ensures) (c .before .before .first6 .ensures) (c .before .volumes-bad .ensures) (c .first7 .ensures)
+    rest-is o _ _ _ _ _ _ _ _ _ _ _ _ _ _ _ _ _ (c .before .before .before .before .before .before .before .before .before .before .before .before .before .before .before .before .before .before .before .before .if1 .left) (c .before .before .before .before .before .before .before .before .before .before .before .before .before .before .before .before .before .before .before .if2 .left) (c .before .before .before .before .before .before .before .before .before .before .before .before .before .before .before .before .before .before .if3 .left) (c .before .before .before .before .before .before .before .before .before .before .before .before .before .before .before .before .before .sum .ensures) (c .before .before .before .before .before .before .before .before .before .before .before .before .before .before .before .before .solid-volume .ensures) (c .before .before .before .before .before .before .before .before .before .before .before .before .before .before .before .target .ensures) (c .before .before .before .before .before .before .before .before .before .before .before .before .before .before .too-short .ensures) (c .before .before .before .before .before .before .before .before .before .before .before .before .before .first .ensures) (c .before .before .before .before .before .before .before .before .before .before .before .before .refusal .ensures) (c .before .before .before .before .before .before .before .before .before .before .before .points-bad .ensures) (c .before .before .before .before .before .before .before .before .before .before .first2 .ensures) (c .before .before .before .before .before .before .before .before .before .radius-bad .ensures) (c .before .before .before .before .before .before .before .before .first3 .ensures) (c .before .before .before .before .before .before .before .no-room .ensures) (c .before .before .before .before .before .before .first4 .ensures) (c .before .before .before .before .first5 .ensures) (c .before .before .before .fraction-bad .ensures) (c .before .before .first6 .ensures) (c .before .volumes-bad .ensures) (c .first7 .ensures)
 
 pub refusal-spec : {M : Type 1} → statement M
 refusal-spec =
@@ -91,7 +91,7 @@ refusal-spec =
     too-short-requires
     first-requires
     refusal-requires
-    centroids-bad-requires
+    points-bad-requires
     first-requires-2
     radius-bad-requires
     first-requires-3

@@ -1,6 +1,7 @@
 -- `run_open_checks::too_short` meets its contract: the tests, as they stand. Assumes nothing.
 use native.Mathlib.Numerals.{add-one}
-use Rattle.run_plain.specs.Lent.{short, runShort, openShort}
+use Rattle.lent.specs.Lent.{short}
+use Rattle.run_plain.specs.Lent.{runShort, openShort}
 use borrow.Author.Needs.{needs}
 use Rattle.run_open_checks.proofs.too_short.Statement.{statement}
 use Rattle.run_open_checks.proofs.too_short.Tie as tie

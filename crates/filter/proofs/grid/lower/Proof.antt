@@ -19,23 +19,23 @@ Inv-loop centroids lo₀ i₀ lo i = (1 ≤ i) × (i ≤ length centroids) × (l
 abbrev μ-loop : tie.MeasureT-loop
 μ-loop centroids lo₀ i₀ lo i = length centroids - i
 
-shared-slice-copy-out-vector : tie.Need-shared-slice-copy-out-vector Inv-loop μ-loop
-shared-slice-copy-out-vector c = search needs
+shared-slice-copy-out-point : tie.Need-shared-slice-copy-out-point Inv-loop μ-loop
+shared-slice-copy-out-point c = search needs
 
-vector-requires : tie.Need-vector-requires Inv-loop μ-loop
-vector-requires c κs = search needs
+point-requires : tie.Need-point-requires Inv-loop μ-loop
+point-requires c κs = search needs
 
 loop-holds : tie.Need-loop-holds Inv-loop μ-loop
-loop-holds c = (search needs, search needs, c .vector .ensures ∙ sym (foldOver-none _ _ 1 1 (omega arith)))
+loop-holds c = (search needs, search needs, c .point .ensures ∙ sym (foldOver-none _ _ 1 1 (omega arith)))
 
-mul-vector : tie.Need-mul-vector Inv-loop μ-loop
-mul-vector c = search needs
+mul-point : tie.Need-mul-point Inv-loop μ-loop
+mul-point c = search needs
 
-shared-slice-copy-out-vector-2 : tie.Need-shared-slice-copy-out-vector-2 Inv-loop μ-loop
-shared-slice-copy-out-vector-2 c = search needs
+shared-slice-copy-out-point-2 : tie.Need-shared-slice-copy-out-point-2 Inv-loop μ-loop
+shared-slice-copy-out-point-2 c = search needs
 
-vector-requires-2 : tie.Need-vector-requires-2 Inv-loop μ-loop
-vector-requires-2 c κs = search needs
+point-requires-2 : tie.Need-point-requires-2 Inv-loop μ-loop
+point-requires-2 c κs = search needs
 
 min-requires : tie.Need-min-requires Inv-loop μ-loop
 min-requires c κs = search needs
@@ -49,7 +49,7 @@ loop-less c = search needs
 loop-again : tie.Need-loop-again Inv-loop μ-loop
 loop-again c = let a = c .before .before .before .before .before .before .before .args in
     let i = c .before .before .before .before .loop .i in
-    (search needs, search needs, c .min .ensures ∙ rw (c .before .vector2 .ensures, c .before .before .before .before .loop .inv .2) (foldOver-more (λ k v. least v (middle (now (a .centroids)) k)) (middle (now (a .centroids)) 0) 1 i (c .before .before .before .before .loop .inv .0)))
+    (search needs, search needs, c .min .ensures ∙ rw (c .before .point2 .ensures, c .before .before .before .before .loop .inv .2) (foldOver-more (λ k v. least v (middle (now (a .centroids)) k)) (middle (now (a .centroids)) 0) 1 i (c .before .before .before .before .loop .inv .0)))
 
 returns : tie.Need-returns Inv-loop μ-loop
 unfolding lowest
@@ -62,12 +62,12 @@ lower-spec =
     (tie.spec
     Inv-loop
     μ-loop
-    shared-slice-copy-out-vector
-    vector-requires
+    shared-slice-copy-out-point
+    point-requires
     loop-holds
-    mul-vector
-    shared-slice-copy-out-vector-2
-    vector-requires-2
+    mul-point
+    shared-slice-copy-out-point-2
+    point-requires-2
     min-requires
     add-i
     loop-less

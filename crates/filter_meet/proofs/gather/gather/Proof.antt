@@ -8,9 +8,9 @@ use lib.ListN.{length}
 use denote.Ref.{now}
 use Rattle.geom.specs.declared.Vec3.{Vec3}
 use Rattle.geom.specs.declared.Mirror.{Mirror}
-use Rattle.filter.specs.Group.{mirrors, members, imageIn}
+use Rattle.filter_group.specs.Group.{mirrors, members, imageIn}
 use Rattle.filter.specs.Filter.{counts, seen}
-use Rattle.filter_meet.specs.Steps.{Lists, Gathered, gained}
+use Rattle.filter_look.specs.Steps.{Lists, Gathered, gained}
 use Rattle.filter_meet.proofs.Taking.{took-lists}
 use Rattle.filter_meet.proofs.Gathering.{gather-more}
 use Rattle.filter_meet.proofs.gather.gather.Statement.{statement}
@@ -25,14 +25,14 @@ abbrev μ-loop : tie.MeasureT-loop
 members-of-requires : tie.Need-members-of-requires Inv-loop μ-loop
 members-of-requires c κs = c .before .before .before .before .before .pre .0 .2
 
-mul-vector : tie.Need-mul-vector Inv-loop μ-loop
-mul-vector c = omega (arith, c .before .before .before .before .before .before .pre .0 .1)
+mul-point : tie.Need-mul-point Inv-loop μ-loop
+mul-point c = omega (arith, c .before .before .before .before .before .before .pre .0 .1)
 
-shared-slice-copy-out-vector : tie.Need-shared-slice-copy-out-vector Inv-loop μ-loop
-shared-slice-copy-out-vector c = c .before .before .before .before .before .before .pre .0 .1
+shared-slice-copy-out-point : tie.Need-shared-slice-copy-out-point Inv-loop μ-loop
+shared-slice-copy-out-point c = c .before .before .before .before .before .before .pre .0 .1
 
-vector-requires : tie.Need-vector-requires Inv-loop μ-loop
-vector-requires c κs = tt
+point-requires : tie.Need-point-requires Inv-loop μ-loop
+point-requires c κs = tt
 
 loop-holds : tie.Need-loop-holds Inv-loop μ-loop
 loop-holds c = let s = c .before .before .before .before .before .before .before .before in (omega arith, s .pre .1 .0, refl, s .pre .1 .1)
@@ -58,7 +58,7 @@ loop-again c = let s = c .before .before .before .before .before .before .before
     let q = c .before .before .before .before .before .before .before .before .before .before .image-of .result in
     let radius = a .g .radius in
     let is : q ≡ seen (now (a .centroids)) radius (now (a .planes)) (a .e) (l .k) =
-    c .before .before .before .before .before .before .before .before .before .before .image-of .ensures ∙ ap (λ (ms : List Mirror). imageIn ms (l .k) (c .before .before .before .before .before .before .before .before .before .before .before .before .before .vector .result)) (s .pre .0 .3) ∙ ap (λ (v : Vec3). imageIn (mirrors (now (a .planes))) (l .k) v) (c .before .before .before .before .before .before .before .before .before .before .before .before .before .vector .ensures) in (
+    c .before .before .before .before .before .before .before .before .before .before .image-of .ensures ∙ ap (λ (ms : List Mirror). imageIn ms (l .k) (c .before .before .before .before .before .before .before .before .before .before .before .before .before .point .result)) (s .pre .0 .3) ∙ ap (λ (v : Vec3). imageIn (mirrors (now (a .planes))) (l .k) v) (c .before .before .before .before .before .before .before .before .before .before .before .before .before .point .ensures) in (
       omega (arith, c .before .before .before .before .before .before .before .before .before .before .before .loop-test .taken),
       took-lists (length (now (a .cell))) (a .mark) (l .count) (l .stamp) (l .weight) (l .bits) (counts (now (a .centroids)) radius q) (gained (now (a .centroids)) radius q) (t .last .1 .1 .1 .1 .1 .1 .1 .1 .1 .0) (t .last .1 .1 .1 .1 .1 .1 .1 .1 .1 .1 .0) (t .last .1 .1 .1 .1 .1 .1 .1 .1 .1 .1 .1 .0) (t .result) (l .inv .1) (t .kept .1 .1 .1 .1 .1 .1 .1 .1 .1 .1 .1 .0) (t .ensures),
       t .kept .1 .1 .1 .1 .1 .1 .1 .1 .1 .1 .1 .0 ∙ l .inv .2,
@@ -88,9 +88,9 @@ gather-spec =
     Inv-loop
     μ-loop
     members-of-requires
-    mul-vector
-    shared-slice-copy-out-vector
-    vector-requires
+    mul-point
+    shared-slice-copy-out-point
+    point-requires
     loop-holds
     image-of-requires
     around-requires

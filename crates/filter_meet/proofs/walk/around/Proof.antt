@@ -8,7 +8,7 @@ use Rattle.geom.specs.declared.Vec3.{Vec3}
 use Rattle.cells.specs.Cells.{cellAt}
 use Rattle.cells.proofs.Fit.{cell-fits}
 use Rattle.filter.specs.Filter.{lowest, highest, outside, counts}
-use Rattle.filter_meet.specs.Steps.{gained}
+use Rattle.filter_look.specs.Steps.{gained}
 use Rattle.filter_meet.proofs.Taking.{took-none, counts-none, block-counts}
 use borrow.Author.Needs.{needs}
 use Rattle.filter_meet.proofs.walk.around.Statement.{statement}

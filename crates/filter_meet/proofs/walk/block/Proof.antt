@@ -4,7 +4,7 @@ use Prim.Native.Nat.{_+_, _-_, _≤_}
 use native.Mathlib.Omega.{arith}
 use lib.ListN.{length}
 use denote.Ref.{now}
-use Rattle.filter_meet.specs.Steps.{Lists, Took, nearBox, gained}
+use Rattle.filter_look.specs.Steps.{Lists, Took, nearBox, gained}
 use Rattle.filter_meet.proofs.Taking.{took-none, took-more, took-lists, near-grows-x, near-none-x}
 use Rattle.filter_meet.proofs.walk.block.Statement.{statement}
 use Rattle.filter_meet.proofs.walk.block.Tie as tie

@@ -6,7 +6,7 @@ use native.Mathlib.Nat.{le-antisymm}
 use native.Mathlib.Omega.{arith}
 use lib.ListN.{length}
 use denote.Ref.{now}
-use Rattle.filter_meet.specs.Steps.{Lists}
+use Rattle.filter_look.specs.Steps.{Lists}
 use Rattle.filter_meet.proofs.walk.column.Statement.{statement}
 use Rattle.filter_meet.proofs.walk.column.Tie as tie
 

@@ -4,7 +4,7 @@ use native.Mathlib.Omega.{arith}
 use lib.ListN.{length}
 use denote.Ref.{now}
 use Rattle.filter_meet.proofs.Preparing.{ready}
-use Rattle.filter_rows.proofs.OneRow.{clean}
+use Rattle.filter_row.proofs.OneRow.{clean}
 use borrow.Author.Needs.{needs}
 use Rattle.filter_rows.proofs.fill.fill_table.Statement.{statement}
 use Rattle.filter_rows.proofs.fill.fill_table.Tie as tie

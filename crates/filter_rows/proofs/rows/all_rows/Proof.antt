@@ -5,7 +5,7 @@ use native.Mathlib.Nat.{le-antisymm}
 use native.Mathlib.Omega.{arith}
 use lib.ListN.{length, set, length-set}
 use denote.Ref.{now}
-use Rattle.filter_rows.specs.Steps.{Clean}
+use Rattle.filter_row.specs.Row.{Clean}
 use Rattle.filter_rows.proofs.Table.{Laid, laid-first, laid-refused, end-small, laid-next, laid-all}
 use Rattle.filter_rows.proofs.rows.all_rows.Statement.{statement}
 use Rattle.filter_rows.proofs.rows.all_rows.Tie as tie

@@ -4,7 +4,7 @@ use lib.ListN.{length}
 use lib.Ieee.{Float}
 use denote.Ref.{now}
 use Rattle.region_by_nodes.specs.Nodes.{inSet}
-use Rattle.region_by_depth.specs.Steps.{reachedBy}
+use Rattle.region_cells.specs.Steps.{reachedBy}
 use borrow.Author.Needs.{needs}
 use Rattle.region_by_depth.proofs.reach.by_depth.Statement.{statement}
 use Rattle.region_by_depth.proofs.reach.by_depth.Tie as tie
@@ -38,7 +38,7 @@ same-length-5 c = search needs
 
 returns : tie.Need-returns
 returns c = let a = c .before .before .before .before .before .before .before .before .before .before .before .before .before .before .before .before .before .before .before .before .before .before .before .before .before .before .before .before .before .args in
-    c .before .before .reach-all .ensures ∙ ap (λ (v : Float). reachedBy (now (a .nodes)) (now (a .tris)) (inSet (now (a .surfaces)) (now (a .starts)) (now (a .kept)) (a .s)) v (a .depth) (now (a .middles)) (length (now (a .tris))) (now (a .marks))) (c .before .before .before .before .before .before .before .before .before .before .before .before .before .before .before .before .before .before .before .before .before .cell-size .ensures)
+    c .before .before .reach-all .ensures ∙ ap (λ (v : Float). reachedBy (now (a .nodes)) (now (a .tris)) (inSet (now (a .surfaces)) (now (a .starts)) (now (a .kept)) (a .s)) v (a .depth) (now (a .centroids)) (length (now (a .tris))) (now (a .marks))) (c .before .before .before .before .before .before .before .before .before .before .before .before .before .before .before .before .before .before .before .before .before .cell-size .ensures)
 
 pub by-depth-spec : {M : Type 1} → statement M
 by-depth-spec =

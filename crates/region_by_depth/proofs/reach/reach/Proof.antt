@@ -3,8 +3,8 @@ use mathlib.Core.Path.{_≡_, ap, _∙_}
 use Prim.Native.Nat.{_+_, _-_, _^_, min}
 use denote.Ref.{now}
 use Rattle.geom.specs.declared.Vec3.{Vec3}
-use Rattle.region_by_depth.specs.Depth.{cellNumber, lowOf, highOf}
-use Rattle.region_by_depth.proofs.Covers.{cells-many, reach-done, reach-none-x, reach-none-y}
+use Rattle.region_cells.specs.Depth.{cellNumber, lowOf, highOf}
+use Rattle.region_cells.proofs.Covers.{cells-many, reach-done, reach-none-x, reach-none-y}
 use borrow.Author.Needs.{needs}
 use Rattle.region_by_depth.proofs.reach.reach.Statement.{statement}
 use Rattle.region_by_depth.proofs.reach.reach.Tie as tie
@@ -56,17 +56,17 @@ returns : tie.Need-returns
 returns c = let u = c .before in
     let s = u .before .before .before .before .before .before .before .before .before .before .before in
     let a = s .args in
-    reach-none-x (a .t) (a .size) (a .depth) (now (a .middles)) (now (a .cells)) (now (a .order)) (now (a .first)) (a .m) (s .pre .0) (u .before .before .before .before .before .below .result) (u .before .before .before .before .above .result) (u .before .before .before .below2 .result) (u .before .before .above2 .result) (u .before .below3 .result) (u .above3 .result) (ex0 u) (ex1 u) (ey0 u) (ey1 u) (ez0 u) (ez1 u) (now (a .marks)) (s .pre .1) (c .if1 .taken)
+    reach-none-x (a .t) (a .size) (a .depth) (now (a .centroids)) (now (a .cells)) (now (a .order)) (now (a .first)) (a .m) (s .pre .0) (u .before .before .before .before .before .below .result) (u .before .before .before .before .above .result) (u .before .before .before .below2 .result) (u .before .before .above2 .result) (u .before .below3 .result) (u .above3 .result) (ex0 u) (ex1 u) (ey0 u) (ey1 u) (ez0 u) (ez1 u) (now (a .marks)) (s .pre .1) (c .if1 .taken)
 
 returns-2 : tie.Need-returns-2
 returns-2 c = let u = c .before .before in
     let s = u .before .before .before .before .before .before .before .before .before .before .before in
     let a = s .args in
-    reach-none-y (a .t) (a .size) (a .depth) (now (a .middles)) (now (a .cells)) (now (a .order)) (now (a .first)) (a .m) (s .pre .0) (u .before .before .before .before .before .below .result) (u .before .before .before .before .above .result) (u .before .before .before .below2 .result) (u .before .before .above2 .result) (u .before .below3 .result) (u .above3 .result) (ex0 u) (ex1 u) (ey0 u) (ey1 u) (ez0 u) (ez1 u) (now (a .marks)) (s .pre .1) (c .if2 .taken)
+    reach-none-y (a .t) (a .size) (a .depth) (now (a .centroids)) (now (a .cells)) (now (a .order)) (now (a .first)) (a .m) (s .pre .0) (u .before .before .before .before .before .below .result) (u .before .before .before .before .above .result) (u .before .before .before .below2 .result) (u .before .before .above2 .result) (u .before .below3 .result) (u .above3 .result) (ex0 u) (ex1 u) (ey0 u) (ey1 u) (ez0 u) (ez1 u) (now (a .marks)) (s .pre .1) (c .if2 .taken)
 
 block-requires : tie.Need-block-requires
 block-requires c κs = let s = c .before .before .before .before .before .before .before .before .before .before .before .before .before .before in
-    let n = cells-many (s .args .t) (s .args .size) (s .args .depth) (now (s .args .middles)) (now (s .args .cells)) (now (s .args .order)) (now (s .args .first)) (s .args .m) (s .pre .0) in
+    let n = cells-many (s .args .t) (s .args .size) (s .args .depth) (now (s .args .centroids)) (now (s .args .cells)) (now (s .args .order)) (now (s .args .first)) (s .args .m) (s .pre .0) in
     (s .pre .0 .filed, n, s .pre .1, c .before .if2 .left, c .before .before .if1 .left)
 
 same-length : tie.Need-same-length
@@ -76,7 +76,7 @@ returns-3 : tie.Need-returns-3
 returns-3 c = let u = c .before .before .before .before .before .before in
     let s = u .before .before .before .before .before .before .before .before .before .before .before in
     let a = s .args in
-    reach-done (a .t) (a .size) (a .depth) (now (a .middles)) (now (a .cells)) (now (a .order)) (now (a .first)) (a .m) (s .pre .0) (u .before .before .before .before .before .below .result) (u .before .before .before .before .above .result) (u .before .before .before .below2 .result) (u .before .before .above2 .result) (u .before .below3 .result) (u .above3 .result) (ex0 u) (ex1 u) (ey0 u) (ey1 u) (ez0 u) (ez1 u) (now (a .marks)) (c .before .before .block .last .1 .1 .1 .1 .1 .1 .1 .1 .1 .1 .1 .1 .1 .0) (s .pre .1) (c .before .before .block .ensures)
+    reach-done (a .t) (a .size) (a .depth) (now (a .centroids)) (now (a .cells)) (now (a .order)) (now (a .first)) (a .m) (s .pre .0) (u .before .before .before .before .before .below .result) (u .before .before .before .before .above .result) (u .before .before .before .below2 .result) (u .before .before .above2 .result) (u .before .below3 .result) (u .above3 .result) (ex0 u) (ex1 u) (ey0 u) (ey1 u) (ez0 u) (ez1 u) (now (a .marks)) (c .before .before .block .last .1 .1 .1 .1 .1 .1 .1 .1 .1 .1 .1 .1 .1 .0) (s .pre .1) (c .before .before .block .ensures)
 
 pub reach-spec : {M : Type 1} → statement M
 reach-spec =

@@ -11,19 +11,19 @@ use denote.Ref.{now}
 use Rattle.lists.specs.Lists.{foldTo, choose}
 use Rattle.lists.proofs.Laws.{foldTo-none, foldTo-more, choose-true, choose-false}
 use Rattle.region_by_nodes.specs.Nodes.{inSet}
-use Rattle.region_by_depth.specs.Depth.{cornersOf}
-use Rattle.region_by_depth.specs.Steps.{reached, reachedBy}
+use Rattle.region_cells.specs.Depth.{cornersOf}
+use Rattle.region_cells.specs.Steps.{reached, reachedBy}
 use Rattle.region_by_depth.proofs.reach.reach_all.Statement.{statement}
 use Rattle.region_by_depth.proofs.reach.reach_all.Tie as tie
 
 abbrev step : List (List Float) → List (List ℕ) → List ℕ → List ℕ → List ℕ → ℕ → Float → Float → List (List Float) → ℕ → List Bool → List Bool
-step nodes tris surfaces starts kept s size depth middles i w = choose (inSet surfaces starts kept s i) (reached size depth (cornersOf nodes (getD tris i [])) middles w) w
+step nodes tris surfaces starts kept s size depth centroids i w = choose (inSet surfaces starts kept s i) (reached size depth (cornersOf nodes (getD tris i [])) centroids w) w
 
 abbrev Inv-loop : tie.InvT-loop
-Inv-loop nodes tris surfaces starts kept s depth size m middles cells order first marks₀ n t₀ marks t = (t ≤ n) × (length marks ≡ length marks₀) × (marks ≡ foldTo (step nodes tris surfaces starts kept s size depth middles) marks₀ t)
+Inv-loop nodes tris surfaces starts kept s depth size m centroids cells order first marks₀ n t₀ marks t = (t ≤ n) × (length marks ≡ length marks₀) × (marks ≡ foldTo (step nodes tris surfaces starts kept s size depth centroids) marks₀ t)
 
 abbrev μ-loop : tie.MeasureT-loop
-μ-loop nodes tris surfaces starts kept s depth size m middles cells order first marks₀ n t₀ marks t = n - t
+μ-loop nodes tris surfaces starts kept s depth size m centroids cells order first marks₀ n t₀ marks t = n - t
 
 loop-holds : tie.Need-loop-holds Inv-loop μ-loop
 loop-holds c = (omega arith, refl, sym (foldTo-none _ _))
@@ -62,8 +62,8 @@ loop-again c = let l = c .before .before .before .before .before .before .before
     let a = c .before .before .before .before .before .before .before .before .before .before .before .before .before .before .before .before .before .args in (
       omega (arith, c .before .before .before .before .before .before .before .before .before .loop-test .taken),
       t .kept .1 .1 .1 .1 .1 .1 .1 .1 .0 ∙ l .inv .1,
-      t .ensures ∙ (λ i. reached (a .size) (a .depth) (c .before .before .before .before .corners .ensures i) (now (a .middles)) (l .inv .2 i))
-          ∙ sym (choose-true (inSet (now (a .surfaces)) (now (a .starts)) (now (a .kept)) (a .s) (l .t)) _ _ (sym (c .before .before .before .before .before .before .in-set .ensures) ∙ c .before .before .before .before .before .if1 .taken)) ∙ foldTo-more (step (now (a .nodes)) (now (a .tris)) (now (a .surfaces)) (now (a .starts)) (now (a .kept)) (a .s) (a .size) (a .depth) (now (a .middles))) (now (a .marks)) (l .t),
+      t .ensures ∙ (λ i. reached (a .size) (a .depth) (c .before .before .before .before .corners .ensures i) (now (a .centroids)) (l .inv .2 i))
+          ∙ sym (choose-true (inSet (now (a .surfaces)) (now (a .starts)) (now (a .kept)) (a .s) (l .t)) _ _ (sym (c .before .before .before .before .before .before .in-set .ensures) ∙ c .before .before .before .before .before .if1 .taken)) ∙ foldTo-more (step (now (a .nodes)) (now (a .tris)) (now (a .surfaces)) (now (a .starts)) (now (a .kept)) (a .s) (a .size) (a .depth) (now (a .centroids))) (now (a .marks)) (l .t),
     )
 
 loop-less-2 : tie.Need-loop-less-2 Inv-loop μ-loop
@@ -75,7 +75,7 @@ loop-again-2 c = let l = c .before .before .before .before .before .loop in
     let a = c .before .before .before .before .before .before .before .before .before .before .before .before .args in (
       omega (arith, c .before .before .before .before .loop-test .taken),
       l .inv .1,
-      l .inv .2 ∙ sym (choose-false (inSet (now (a .surfaces)) (now (a .starts)) (now (a .kept)) (a .s) (l .t)) _ _ (sym (c .before .in-set .ensures) ∙ c .if1 .left)) ∙ foldTo-more (step (now (a .nodes)) (now (a .tris)) (now (a .surfaces)) (now (a .starts)) (now (a .kept)) (a .s) (a .size) (a .depth) (now (a .middles))) (now (a .marks)) (l .t),
+      l .inv .2 ∙ sym (choose-false (inSet (now (a .surfaces)) (now (a .starts)) (now (a .kept)) (a .s) (l .t)) _ _ (sym (c .before .in-set .ensures) ∙ c .if1 .left)) ∙ foldTo-more (step (now (a .nodes)) (now (a .tris)) (now (a .surfaces)) (now (a .starts)) (now (a .kept)) (a .s) (a .size) (a .depth) (now (a .centroids))) (now (a .marks)) (l .t),
     )
 
 same-length : tie.Need-same-length Inv-loop μ-loop
@@ -84,7 +84,7 @@ same-length c = c .before .loop .inv .1
 returns : tie.Need-returns Inv-loop μ-loop
 unfolding reachedBy
 returns c = let a = c .before .before .before .before .before .before .before .before .args in
-    c .before .loop .inv .2 ∙ ap (foldTo (step (now (a .nodes)) (now (a .tris)) (now (a .surfaces)) (now (a .starts)) (now (a .kept)) (a .s) (a .size) (a .depth) (now (a .middles))) (now (a .marks))) (le-antisymm (c .before .loop .inv .0) (c .loop-test .left))
+    c .before .loop .inv .2 ∙ ap (foldTo (step (now (a .nodes)) (now (a .tris)) (now (a .surfaces)) (now (a .starts)) (now (a .kept)) (a .s) (a .size) (a .depth) (now (a .centroids))) (now (a .marks))) (le-antisymm (c .before .loop .inv .0) (c .loop-test .left))
 
 pub reach-all-spec : {M : Type 1} → statement M
 reach-all-spec =

@@ -9,17 +9,17 @@ use lib.ListN.{length}
 use denote.Ref.{now}
 use Rattle.cells.specs.Cells.{changed}
 use Rattle.cells.proofs.Changed.{changed-more}
-use Rattle.region_by_depth.specs.Steps.{boxNear}
-use Rattle.region_by_depth.proofs.Near.{near-grows-x}
+use Rattle.region_cells.specs.Steps.{boxNear}
+use Rattle.region_cells.proofs.Near.{near-grows-x}
 use Rattle.region_by_depth.proofs.walk.block.Statement.{statement}
 use Rattle.region_by_depth.proofs.walk.block.Tie as tie
 
 abbrev Inv-loop : tie.InvT-loop
-Inv-loop t limit m x0 x1 y0 y1 z0 z1 middles cells order first marks₀ x₀ marks x = (x0 ≤ x) × (x ≤ x1) × (length marks ≡ length marks₀)
-    × ((w : List Bool) → marks₀ ≡ changed (boxNear t limit middles cells x0 (x0 + 1) y0 (y1 + 1) z0 (z1 + 1)) (λ _ _. true) w → marks ≡ changed (boxNear t limit middles cells x0 (x + 1) y0 (y1 + 1) z0 (z1 + 1)) (λ _ _. true) w)
+Inv-loop t limit m x0 x1 y0 y1 z0 z1 centroids cells order first marks₀ x₀ marks x = (x0 ≤ x) × (x ≤ x1) × (length marks ≡ length marks₀)
+    × ((w : List Bool) → marks₀ ≡ changed (boxNear t limit centroids cells x0 (x0 + 1) y0 (y1 + 1) z0 (z1 + 1)) (λ _ _. true) w → marks ≡ changed (boxNear t limit centroids cells x0 (x + 1) y0 (y1 + 1) z0 (z1 + 1)) (λ _ _. true) w)
 
 abbrev μ-loop : tie.MeasureT-loop
-μ-loop t limit m x0 x1 y0 y1 z0 z1 middles cells order first marks₀ x₀ marks x = x1 - x
+μ-loop t limit m x0 x1 y0 y1 z0 z1 centroids cells order first marks₀ x₀ marks x = x1 - x
 
 plane-requires : tie.Need-plane-requires Inv-loop μ-loop
 plane-requires c κs = let s = c .before .before .before .before in (s .pre .0, s .pre .1, s .pre .2, s .pre .3)
@@ -44,8 +44,8 @@ loop-again c = let a = c .before .before .before .before .before .before .before
       omega (arith, l .inv .0),
       omega (arith, c .before .before .before .before .loop-test .taken),
       t .kept .1 .1 .1 .1 .1 .1 .1 .1 .1 .1 .1 .1 .0 ∙ l .inv .2,
-      λ w e. changed-more (λ _ _. true) true (boxNear (a .t) (a .limit) (now (a .middles)) (now (a .cells)) k (k + 1) (a .y0) (a .y1 + 1) (a .z0) (a .z1 + 1)) (boxNear (a .t) (a .limit) (now (a .middles)) (now (a .cells)) (a .x0) k (a .y0) (a .y1 + 1) (a .z0) (a .z1 + 1)) (boxNear (a .t) (a .limit) (now (a .middles)) (now (a .cells)) (a .x0) (k + 1) (a .y0) (a .y1 + 1) (a .z0) (a .z1 + 1))
-          w (l .marks) (t .last .1 .1 .1 .1 .1 .1 .1 .1 .1 .1 .1 .1 .0) (near-grows-x (a .t) (a .limit) (now (a .middles)) (now (a .cells)) (a .x0) k (a .y0) (a .y1 + 1) (a .z0) (a .z1 + 1) (omega (arith, l .inv .0))) (l .inv .3 w e) (t .ensures),
+      λ w e. changed-more (λ _ _. true) true (boxNear (a .t) (a .limit) (now (a .centroids)) (now (a .cells)) k (k + 1) (a .y0) (a .y1 + 1) (a .z0) (a .z1 + 1)) (boxNear (a .t) (a .limit) (now (a .centroids)) (now (a .cells)) (a .x0) k (a .y0) (a .y1 + 1) (a .z0) (a .z1 + 1)) (boxNear (a .t) (a .limit) (now (a .centroids)) (now (a .cells)) (a .x0) (k + 1) (a .y0) (a .y1 + 1) (a .z0) (a .z1 + 1))
+          w (l .marks) (t .last .1 .1 .1 .1 .1 .1 .1 .1 .1 .1 .1 .1 .0) (near-grows-x (a .t) (a .limit) (now (a .centroids)) (now (a .cells)) (a .x0) k (a .y0) (a .y1 + 1) (a .z0) (a .z1 + 1) (omega (arith, l .inv .0))) (l .inv .3 w e) (t .ensures),
     )
 
 same-length : tie.Need-same-length Inv-loop μ-loop

@@ -8,17 +8,17 @@ use lib.ListN.{length}
 use lib.Ieee.{lt}
 use denote.Ref.{now}
 use Rattle.cells.proofs.Walks.{Walked, walk-none, walk-done}
-use Rattle.region_by_depth.specs.Steps.{boxNear}
-use Rattle.region_by_depth.proofs.Near.{near-box, near-own, look-more}
+use Rattle.region_cells.specs.Steps.{boxNear}
+use Rattle.region_cells.proofs.Near.{near-box, near-own, look-more}
 use Rattle.region_by_depth.proofs.walk.column.Statement.{statement}
 use Rattle.region_by_depth.proofs.walk.column.Tie as tie
 
 abbrev Inv-loop : tie.InvT-loop
-Inv-loop t limit m x y z0 z1 middles cells order first marks₀ k₀ to marks k = (k₀ ≤ k) × (k ≤ to) × (to ≤ length cells) × (length marks ≡ length marks₀)
-    × Walked cells order first m (boxNear t limit middles cells x (x + 1) y (y + 1) z0 (z1 + 1)) (λ _ _. true) marks₀ k₀ k marks
+Inv-loop t limit m x y z0 z1 centroids cells order first marks₀ k₀ to marks k = (k₀ ≤ k) × (k ≤ to) × (to ≤ length cells) × (length marks ≡ length marks₀)
+    × Walked cells order first m (boxNear t limit centroids cells x (x + 1) y (y + 1) z0 (z1 + 1)) (λ _ _. true) marks₀ k₀ k marks
 
 abbrev μ-loop : tie.MeasureT-loop
-μ-loop t limit m x y z0 z1 middles cells order first marks₀ k₀ to marks k = to - k
+μ-loop t limit m x y z0 z1 centroids cells order first marks₀ k₀ to marks k = to - k
 
 span-requires : tie.Need-span-requires Inv-loop μ-loop
 span-requires c κs = (c .before .before .before .pre .0 .some, c .before .before .before .pre .0 .firsts)
@@ -30,7 +30,7 @@ loop-holds c = let a = c .before .before .before .before .args in
       s .0,
       s .1,
       refl,
-      walk-none (now (a .cells)) (now (a .order)) (now (a .first)) (a .m) (boxNear (a .t) (a .limit) (now (a .middles)) (now (a .cells)) (a .x) (a .x + 1) (a .y) (a .y + 1) (a .z0) (a .z1 + 1)) (near-own (a .t) (a .limit) (now (a .middles)) (now (a .cells)) (a .x) (a .x + 1) (a .y) (a .y + 1) (a .z0) (a .z1 + 1)) (λ _ _. true) true (now (a .marks)) (c .span .result .from),
+      walk-none (now (a .cells)) (now (a .order)) (now (a .first)) (a .m) (boxNear (a .t) (a .limit) (now (a .centroids)) (now (a .cells)) (a .x) (a .x + 1) (a .y) (a .y + 1) (a .z0) (a .z1 + 1)) (near-own (a .t) (a .limit) (now (a .centroids)) (now (a .cells)) (a .x) (a .x + 1) (a .y) (a .y + 1) (a .z0) (a .z1 + 1)) (λ _ _. true) true (now (a .marks)) (c .span .result .from),
     )
 
 look-requires : tie.Need-look-requires Inv-loop μ-loop
@@ -57,7 +57,7 @@ loop-again c = let s = c .before .before .before .before .before .before .before
       omega (arith, c .before .before .before .before .loop-test .taken),
       l .inv .2,
       o .kept .1 .1 .1 .1 .1 .1 .1 .1 .1 .1 .0 ∙ l .inv .3,
-      look-more (a .t) (a .limit) (now (a .middles)) (now (a .cells)) (now (a .order)) (now (a .first)) (a .m) (a .x) (a .y) (a .z0) (a .z1) (now (a .marks)) (c .before .before .before .before .before .before .span .result .from) (l .k) (l .marks) (o .last .1 .1 .1 .1 .1 .1 .1 .1 .1 .1 .0) (l .inv .0) lt (s .pre .0 .order-lt (l .k) lt) (l .inv .3 ∙ s .pre .2 ∙ sym (s .pre .1)) (l .inv .4) (o .ensures),
+      look-more (a .t) (a .limit) (now (a .centroids)) (now (a .cells)) (now (a .order)) (now (a .first)) (a .m) (a .x) (a .y) (a .z0) (a .z1) (now (a .marks)) (c .before .before .before .before .before .before .span .result .from) (l .k) (l .marks) (o .last .1 .1 .1 .1 .1 .1 .1 .1 .1 .1 .0) (l .inv .0) lt (s .pre .0 .order-lt (l .k) lt) (l .inv .3 ∙ s .pre .2 ∙ sym (s .pre .1)) (l .inv .4) (o .ensures),
     )
 
 same-length : tie.Need-same-length Inv-loop μ-loop
@@ -68,8 +68,8 @@ returns c = let s = c .before .before .before .before .before .before in
     let a = s .args in
     let l = c .before .loop in
     let e : l .k ≡ c .before .before .span .result .to = le-antisymm (l .inv .1) (c .loop-test .left) in
-    walk-done (now (a .cells)) (now (a .order)) (now (a .first)) (a .m) (boxNear (a .t) (a .limit) (now (a .middles)) (now (a .cells)) (a .x) (a .x + 1) (a .y) (a .y + 1) (a .z0) (a .z1 + 1)) (near-own (a .t) (a .limit) (now (a .middles)) (now (a .cells)) (a .x) (a .x + 1) (a .y) (a .y + 1) (a .z0) (a .z1 + 1)) (λ _ _. true) true (now (a .marks)) (c .before .before .span .result .from)
-    (s .pre .0) (c .before .before .span .result .to) (l .marks) (λ i q. c .before .before .span .ensures .holds (now (a .cells)) (now (a .order)) (s .pre .0) refl i (near-box (a .t) (a .limit) (now (a .middles)) (now (a .cells)) (a .x) (a .x + 1) (a .y) (a .y + 1) (a .z0) (a .z1 + 1) i q)) (rw e at (l .inv .4))
+    walk-done (now (a .cells)) (now (a .order)) (now (a .first)) (a .m) (boxNear (a .t) (a .limit) (now (a .centroids)) (now (a .cells)) (a .x) (a .x + 1) (a .y) (a .y + 1) (a .z0) (a .z1 + 1)) (near-own (a .t) (a .limit) (now (a .centroids)) (now (a .cells)) (a .x) (a .x + 1) (a .y) (a .y + 1) (a .z0) (a .z1 + 1)) (λ _ _. true) true (now (a .marks)) (c .before .before .span .result .from)
+    (s .pre .0) (c .before .before .span .result .to) (l .marks) (λ i q. c .before .before .span .ensures .holds (now (a .cells)) (now (a .order)) (s .pre .0) refl i (near-box (a .t) (a .limit) (now (a .centroids)) (now (a .cells)) (a .x) (a .x + 1) (a .y) (a .y + 1) (a .z0) (a .z1 + 1) i q)) (rw e at (l .inv .4))
 
 pub column-spec : {M : Type 1} → statement M
 column-spec =

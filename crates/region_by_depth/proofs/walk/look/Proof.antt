@@ -3,8 +3,8 @@ use mathlib.Core.Path.{sym, _∙_}
 use lib.ListN.{getD}
 use denote.Ref.{now}
 use Rattle.lists.proofs.Laws.{choose-true, choose-false}
-use Rattle.region_by_depth.specs.Steps.{nearAt, seenAt}
-use Rattle.region_by_depth.proofs.Near.{marked-stays}
+use Rattle.region_cells.specs.Steps.{nearAt, seenAt}
+use Rattle.region_cells.proofs.Near.{marked-stays}
 use borrow.Author.Needs.{needs}
 use Rattle.region_by_depth.proofs.walk.look.Statement.{statement}
 use Rattle.region_by_depth.proofs.walk.look.Tie as tie

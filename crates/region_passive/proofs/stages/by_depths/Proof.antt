@@ -8,7 +8,7 @@ use lib.ListN.{length, getD}
 use lib.Ieee.{Float, nan}
 use denote.Ref.{now}
 use Rattle.lists.proofs.Laws.{choose-true, choose-false}
-use Rattle.region_by_depth.specs.Depth.{isDepth}
+use Rattle.lent.specs.Domain.{isDepth}
 use Rattle.region_passive.specs.Passive.{Problem}
 use Rattle.region_passive.specs.Steps.{deepened, deepenedTo}
 use Rattle.region_passive.proofs.Solid.{deepened-none, deepened-more}
@@ -20,10 +20,10 @@ abbrev sets-of : List (List Float) → List (List ℕ) → List ℕ → List ℕ
 sets-of nodes′ tris′ surfaces′ starts′ kept′ depths′ = record { nodes = nodes′; tets = []; tris = tris′; surfaces = surfaces′; held = []; loaded = []; starts = starts′; kept = kept′; depths = depths′ }
 
 abbrev Inv-loop : tie.InvT-loop
-Inv-loop nodes tris surfaces starts kept depths middles cells₀ order₀ place₀ first₀ marks₀ n s₀ cells order place first marks s = (s ≤ n) × (length cells ≡ length cells₀) × (length order ≡ length order₀) × (length place ≡ length place₀) × (length first ≡ length first₀) × (length marks ≡ length marks₀) × (marks ≡ deepenedTo (sets-of nodes tris surfaces starts kept depths) middles s marks₀)
+Inv-loop nodes tris surfaces starts kept depths centroids cells₀ order₀ place₀ first₀ marks₀ n s₀ cells order place first marks s = (s ≤ n) × (length cells ≡ length cells₀) × (length order ≡ length order₀) × (length place ≡ length place₀) × (length first ≡ length first₀) × (length marks ≡ length marks₀) × (marks ≡ deepenedTo (sets-of nodes tris surfaces starts kept depths) centroids s marks₀)
 
 abbrev μ-loop : tie.MeasureT-loop
-μ-loop nodes tris surfaces starts kept depths middles cells₀ order₀ place₀ first₀ marks₀ n s₀ cells order place first marks s = n - s
+μ-loop nodes tris surfaces starts kept depths centroids cells₀ order₀ place₀ first₀ marks₀ n s₀ cells order place first marks s = n - s
 
 loop-holds : tie.Need-loop-holds Inv-loop μ-loop
 loop-holds c = (omega arith, refl, refl, refl, refl, refl, deepened-none _ _ _)
@@ -56,14 +56,14 @@ loop-again c = let s = c .before .before .before .before .before .before .before
     let l = c .before .before .before .before .before .before .before .before .before .before .before .before .before .before .before .before .before .before .before .loop in
     let t = c .before .before .before .before .before .before .before .before .before .by-depth in
     let q = sets-of (now (a .nodes)) (now (a .tris)) (now (a .surfaces)) (now (a .starts)) (now (a .kept)) (now (a .depths)) in
-    let one : t .last .1 .1 .1 .1 .1 .1 .1 .1 .1 .1 .1 .1 .0 ≡ deepened q (now (a .middles)) (l .s) (l .marks) = t .ensures ∙ sym (choose-true (isDepth (getD (now (a .depths)) (l .s) nan)) _ _ (sym (c .before .before .before .before .before .before .before .before .before .before .before .before .before .before .before .before .is-depth .ensures) ∙ c .before .before .before .before .before .before .before .before .before .before .before .before .before .before .before .if1 .taken)) in (
+    let one : t .last .1 .1 .1 .1 .1 .1 .1 .1 .1 .1 .1 .1 .0 ≡ deepened q (now (a .centroids)) (l .s) (l .marks) = t .ensures ∙ sym (choose-true (isDepth (getD (now (a .depths)) (l .s) nan)) _ _ (sym (c .before .before .before .before .before .before .before .before .before .before .before .before .before .before .before .before .is-depth .ensures) ∙ c .before .before .before .before .before .before .before .before .before .before .before .before .before .before .before .if1 .taken)) in (
       omega (arith, c .before .before .before .before .before .before .before .before .before .before .before .before .before .before .before .before .before .before .loop-test .taken),
       t .kept .1 .1 .1 .1 .1 .1 .1 .1 .0 ∙ l .inv .1,
       t .kept .1 .1 .1 .1 .1 .1 .1 .1 .1 .0 ∙ l .inv .2,
       t .kept .1 .1 .1 .1 .1 .1 .1 .1 .1 .1 .0 ∙ l .inv .3,
       t .kept .1 .1 .1 .1 .1 .1 .1 .1 .1 .1 .1 .0 ∙ l .inv .4,
       t .kept .1 .1 .1 .1 .1 .1 .1 .1 .1 .1 .1 .1 .0 ∙ l .inv .5,
-      one ∙ ap (deepened q (now (a .middles)) (l .s)) (l .inv .6) ∙ deepened-more q (now (a .middles)) (l .s) (now (a .marks)),
+      one ∙ ap (deepened q (now (a .centroids)) (l .s)) (l .inv .6) ∙ deepened-more q (now (a .centroids)) (l .s) (now (a .marks)),
     )
 
 loop-less-2 : tie.Need-loop-less-2 Inv-loop μ-loop
@@ -75,14 +75,14 @@ loop-again-2 c = let s = c .before .before .before .before .before .before .befo
     let a = s .args in
     let l = c .before .before .before .before .loop in
     let q = sets-of (now (a .nodes)) (now (a .tris)) (now (a .surfaces)) (now (a .starts)) (now (a .kept)) (now (a .depths)) in
-    let one : l .marks ≡ deepened q (now (a .middles)) (l .s) (l .marks) = sym (choose-false (isDepth (getD (now (a .depths)) (l .s) nan)) _ _ (sym (c .before .is-depth .ensures) ∙ c .if1 .left)) in (
+    let one : l .marks ≡ deepened q (now (a .centroids)) (l .s) (l .marks) = sym (choose-false (isDepth (getD (now (a .depths)) (l .s) nan)) _ _ (sym (c .before .is-depth .ensures) ∙ c .if1 .left)) in (
       omega (arith, c .before .before .before .loop-test .taken),
       l .inv .1,
       l .inv .2,
       l .inv .3,
       l .inv .4,
       l .inv .5,
-      one ∙ ap (deepened q (now (a .middles)) (l .s)) (l .inv .6) ∙ deepened-more q (now (a .middles)) (l .s) (now (a .marks)),
+      one ∙ ap (deepened q (now (a .centroids)) (l .s)) (l .inv .6) ∙ deepened-more q (now (a .centroids)) (l .s) (now (a .marks)),
     )
 
 same-length : tie.Need-same-length Inv-loop μ-loop
@@ -102,7 +102,7 @@ same-length-5 c = c .before .loop .inv .5
 
 returns : tie.Need-returns Inv-loop μ-loop
 returns c = let a = c .before .before .before .before .before .before .before .before .before .before .args in
-    c .before .loop .inv .6 ∙ ap (λ (k : ℕ). deepenedTo (sets-of (now (a .nodes)) (now (a .tris)) (now (a .surfaces)) (now (a .starts)) (now (a .kept)) (now (a .depths))) (now (a .middles)) k (now (a .marks))) (le-antisymm (c .before .loop .inv .0) (c .loop-test .left))
+    c .before .loop .inv .6 ∙ ap (λ (k : ℕ). deepenedTo (sets-of (now (a .nodes)) (now (a .tris)) (now (a .surfaces)) (now (a .starts)) (now (a .kept)) (now (a .depths))) (now (a .centroids)) k (now (a .marks))) (le-antisymm (c .before .loop .inv .0) (c .loop-test .left))
 
 pub by-depths-spec : {M : Type 1} → statement M
 by-depths-spec =

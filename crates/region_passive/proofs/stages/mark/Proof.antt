@@ -37,13 +37,13 @@ returns c = let s = c .before .before .before .before .before .before .before .b
     let w = c .before .before .before .before .before .by-nodes .last .1 .1 .1 .1 .1 .1 .1 .1 .1 .0 in
     solid-none (problem s) w (omega (arith, c .if1 .taken)) (by-node s w (c .before .before .before .before .before .by-nodes .ensures))
 
-middles-of-requires : tie.Need-middles-of-requires
-middles-of-requires c κs = c .before .before .before .before .before .before .before .before .before .before .before .before .before .before .before .before .before .before .before .before .pre .middled
+centroids-of-requires : tie.Need-centroids-of-requires
+centroids-of-requires c κs = c .before .before .before .before .before .before .before .before .before .before .before .before .before .before .before .before .before .before .before .before .pre .middled
 
 by-depths-requires : tie.Need-by-depths-requires
 by-depths-requires c κs = let s = c .before .before .before .before .before .before .before .before .before .before .before .before .before .before .before .before .before .before .before .before .before .before .before .before .before .before .before .before in
     let p = s .pre in
-    let n = c .before .before .before .before .before .before .before .middles-of .kept .1 .1 .0 ∙ p .middled in
+    let n = c .before .before .before .before .before .before .before .centroids-of .kept .1 .1 .0 ∙ p .middled in
     record {
       some = omega (arith, n, c .before .before .before .before .before .before .before .before .before .if1 .left);
       few = omega (arith, n, p .few);
@@ -63,7 +63,7 @@ same-length-4 : tie.Need-same-length-4
 same-length-4 c = c .before .before .before .before .before .before .before .before .before .before .before .before .before .before .before .before .before .before .before .before .before .before .before .before .by-nodes .kept .1 .1 .1 .1 .1 .1 .1 .1 .0
 
 same-length-5 : tie.Need-same-length-5
-same-length-5 c = c .before .before .before .before .before .before .before .before .before .before .before .before .before .before .before .before .before .middles-of .kept .1 .1 .0
+same-length-5 c = c .before .before .before .before .before .before .before .before .before .before .before .before .before .before .before .before .before .centroids-of .kept .1 .1 .0
 
 same-length-6 : tie.Need-same-length-6
 same-length-6 c = c .before .before .before .before .before .before .before .before .before .by-depths .kept .1 .1 .1 .1 .1 .1 .1 .0
@@ -80,8 +80,8 @@ same-length-9 c = c .before .before .before .before .before .before .before .bef
 returns-2 : tie.Need-returns-2
 returns-2 c = let s = c .before .before .before .before .before .before .before .before .before .before .before .before .before .before .before .before .before .before .before .before .before .before .before .before .before .before .before .before .before .before .before .before .before .before .before .before .before .before in
     let w = c .before .before .before .before .before .before .before .before .before .before .before .before .before .before .before .before .before .before .before .before .before .before .before .before .by-nodes .last .1 .1 .1 .1 .1 .1 .1 .1 .1 .0 in
-    solid (problem s) w (c .before .before .before .before .before .before .before .before .before .by-depths .last .1 .1 .1 .1 .1 .1 .1 .1 .1 .1 .1 .0) (c .before .before .before .before .before .before .before .before .before .before .before .before .before .before .before .before .before .middles-of .last .1 .1 .0) (by-node s w (c .before .before .before .before .before .before .before .before .before .before .before .before .before .before .before .before .before .before .before .before .before .before .before .before .by-nodes .ensures)) (c .before .before .before .before .before .before .before .before .before .before .before .before .before .before .before .before .before .middles-of .ensures)
-    (c .before .before .before .before .before .before .before .before .before .by-depths .ensures ∙ sets-only (problem s) (c .before .before .before .before .before .before .before .before .before .before .before .before .before .before .before .before .before .middles-of .last .1 .1 .0) (length (now (s .args .depths))) w)
+    solid (problem s) w (c .before .before .before .before .before .before .before .before .before .by-depths .last .1 .1 .1 .1 .1 .1 .1 .1 .1 .1 .1 .0) (c .before .before .before .before .before .before .before .before .before .before .before .before .before .before .before .before .before .centroids-of .last .1 .1 .0) (by-node s w (c .before .before .before .before .before .before .before .before .before .before .before .before .before .before .before .before .before .before .before .before .before .before .before .before .by-nodes .ensures)) (c .before .before .before .before .before .before .before .before .before .before .before .before .before .before .before .before .before .centroids-of .ensures)
+    (c .before .before .before .before .before .before .before .before .before .by-depths .ensures ∙ sets-only (problem s) (c .before .before .before .before .before .before .before .before .before .before .before .before .before .before .before .before .before .centroids-of .last .1 .1 .0) (length (now (s .args .depths))) w)
 
 pub mark-spec : {M : Type 1} → statement M
 mark-spec =
@@ -91,7 +91,7 @@ mark-spec =
     same-length
     same-length-2
     returns
-    middles-of-requires
+    centroids-of-requires
     by-depths-requires
     same-length-3
     same-length-4

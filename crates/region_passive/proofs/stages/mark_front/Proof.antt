@@ -32,7 +32,7 @@ slice-relend-prefix-mark-3 : tie.Need-slice-relend-prefix-mark-3
 slice-relend-prefix-mark-3 c = search needs
 
 slice-aggregate-mark-3 : tie.Need-slice-aggregate-mark-3
-slice-aggregate-mark-3 c = let s = c .before .before .before .before .before .before .before .before .before .before .before .before .before .before in let a = s .args in sym (length-take-le (length (now (a .tets))) (now (a .middles)) (s .pre .middled))
+slice-aggregate-mark-3 c = let s = c .before .before .before .before .before .before .before .before .before .before .before .before .before .before in let a = s .args in sym (length-take-le (length (now (a .tets))) (now (a .centroids)) (s .pre .middled))
 
 slice-relend-prefix-mark-4 : tie.Need-slice-relend-prefix-mark-4
 slice-relend-prefix-mark-4 c = search needs
@@ -68,7 +68,7 @@ mark-requires c κs = let s = c .before .before .before .before .before .before 
       begun = p .begun;
       marked = length-take-le (length (now (a .tets))) (now (a .marks)) (p .marked);
       keeps = length-take-le (length (now (a .nodes))) (now (a .keep)) (p .keeps);
-      middled = length-take-le (length (now (a .tets))) (now (a .middles)) (p .middled);
+      middled = length-take-le (length (now (a .tets))) (now (a .centroids)) (p .middled);
       celled = length-take-le (length (now (a .tets))) (now (a .cells)) (p .celled);
       orders = length-take-le (length (now (a .tets))) (now (a .order)) (p .orders);
       places = length-take-le (length (now (a .tets))) (now (a .place)) (p .places);
@@ -88,7 +88,7 @@ same-length-2 c = let a = c .before .before .before .before .before .before .bef
 same-length-3 : tie.Need-same-length-3
 same-length-3 c = let a = c .before .before .before .before .before .before .before .before .before .before .before .before .before .before .before .before .before .before .before .before .before .before .before .before .before .before .before .before .before .before .before .args in
     let t = c .before .before .before .before .before .before .before .before .before .before .before .before .mark in
-    length-front (now (a .middles)) (t .last .1 .1 .1 .1 .1 .1 .1 .1 .1 .1 .1 .0) (length (now (a .tets))) (t .kept .1 .1 .1 .1 .1 .1 .1 .1 .1 .1 .1 .0)
+    length-front (now (a .centroids)) (t .last .1 .1 .1 .1 .1 .1 .1 .1 .1 .1 .1 .0) (length (now (a .tets))) (t .kept .1 .1 .1 .1 .1 .1 .1 .1 .1 .1 .1 .0)
 
 same-length-4 : tie.Need-same-length-4
 same-length-4 c = let a = c .before .before .before .before .before .before .before .before .before .before .before .before .before .before .before .before .before .before .before .before .before .before .before .before .before .before .before .before .before .before .before .args in
@@ -118,7 +118,7 @@ returns c = let s = c .before .before .before .before .before .before .before .b
       solid-front (problem s) (t .last .1 .1 .1 .1 .1 .1 .1 .1 .1 .0) (now (a .marks)) (p .marked) (t .ensures),
       record {
         keeps = drop-at (t .last .1 .1 .1 .1 .1 .1 .1 .1 .1 .1 .0) (drop (length (now (a .nodes))) (now (a .keep))) (length (now (a .nodes))) (t .kept .1 .1 .1 .1 .1 .1 .1 .1 .1 .1 .0 ∙ length-take-le (length (now (a .nodes))) (now (a .keep)) (p .keeps));
-        middled = drop-at (t .last .1 .1 .1 .1 .1 .1 .1 .1 .1 .1 .1 .0) (drop (length (now (a .tets))) (now (a .middles))) (length (now (a .tets))) (t .kept .1 .1 .1 .1 .1 .1 .1 .1 .1 .1 .1 .0 ∙ length-take-le (length (now (a .tets))) (now (a .middles)) (p .middled));
+        middled = drop-at (t .last .1 .1 .1 .1 .1 .1 .1 .1 .1 .1 .1 .0) (drop (length (now (a .tets))) (now (a .centroids))) (length (now (a .tets))) (t .kept .1 .1 .1 .1 .1 .1 .1 .1 .1 .1 .1 .0 ∙ length-take-le (length (now (a .tets))) (now (a .centroids)) (p .middled));
         celled = drop-at (t .last .1 .1 .1 .1 .1 .1 .1 .1 .1 .1 .1 .1 .0) (drop (length (now (a .tets))) (now (a .cells))) (length (now (a .tets))) (t .kept .1 .1 .1 .1 .1 .1 .1 .1 .1 .1 .1 .1 .0 ∙ length-take-le (length (now (a .tets))) (now (a .cells)) (p .celled));
         orders = drop-at (t .last .1 .1 .1 .1 .1 .1 .1 .1 .1 .1 .1 .1 .1 .0) (drop (length (now (a .tets))) (now (a .order))) (length (now (a .tets))) (t .kept .1 .1 .1 .1 .1 .1 .1 .1 .1 .1 .1 .1 .1 .0 ∙ length-take-le (length (now (a .tets))) (now (a .order)) (p .orders));
         places = drop-at (t .last .1 .1 .1 .1 .1 .1 .1 .1 .1 .1 .1 .1 .1 .1 .0) (drop (length (now (a .tets))) (now (a .place))) (length (now (a .tets))) (t .kept .1 .1 .1 .1 .1 .1 .1 .1 .1 .1 .1 .1 .1 .1 .0 ∙ length-take-le (length (now (a .tets))) (now (a .place)) (p .places));

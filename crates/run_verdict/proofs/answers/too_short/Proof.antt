@@ -1,6 +1,7 @@
 -- `run_verdict::answers::too_short` meets its contract: the tests, as they stand. Assumes nothing.
 use native.Mathlib.Numerals.{add-one}
-use Rattle.run_plain.specs.Lent.{short, runShort, answerShort}
+use Rattle.lent.specs.Lent.{short}
+use Rattle.run_plain.specs.Lent.{runShort, answerShort}
 use borrow.Author.Needs.{needs}
 use Rattle.run_verdict.proofs.answers.too_short.Statement.{statement}
 use Rattle.run_verdict.proofs.answers.too_short.Tie as tie

@@ -1,0 +1,2 @@
+-- `Wiped` has what the wiping of the working lists leaves.
+pub mod Wiped

@@ -1,0 +1,3 @@
+-- `Refusals` has the laws of the first refusal of several, `Lent` those of what a call leaves.
+pub mod Refusals
+pub mod Lent

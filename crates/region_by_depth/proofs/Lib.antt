@@ -1,4 +1,0 @@
--- `Depths` has what sets with depths add to the marks. `Near` has the walk of a box of cells about a triangle, `Covers` that the box holds all that it reaches.
-pub mod Depths
-mod Near
-mod Covers

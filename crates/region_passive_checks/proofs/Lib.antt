@@ -1,0 +1,2 @@
+-- `Laws` has a law of tests.
+mod Laws

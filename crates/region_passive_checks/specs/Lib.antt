@@ -1,0 +1,2 @@
+-- `Checks` has what `passive` is refused for.
+pub mod Checks
