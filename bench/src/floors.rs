@@ -1,8 +1,9 @@
 //! Floors: the clever ways have a slow one behind them that gives the same answers, so that no comparison of answers sees a clever way that is no longer
 //! taken. These see it.
 use std::hint::black_box;
+use std::time::Instant;
 
-use crate::rounds::{BLOCKS, Block, RADIUS, best, grouped};
+use crate::rounds::{BLOCKS, Block, RADIUS, grouped};
 use sokdrib::filter::{Into, Work, build};
 use sokdrib::oc::{self, Aim, Next, Rule, Seen};
 use sokdrib::table::Table;
@@ -12,6 +13,8 @@ use tenon::topo::{self, MOVE, level_of};
 const COUNTS: [usize; 3] = [45_636, 55_057, 60_848];
 /// How much longer a build may take than that of an element less.
 const MOST: f64 = 1.6;
+/// How often each is timed: many, since a machine that is at work on something else tells on few.
+const TIMINGS: usize = 15;
 /// Places for the entries of a row: a block's rows have at most 112.
 const ENTRIES: usize = 112;
 
@@ -38,16 +41,25 @@ fn middles(block: &Block) -> Vec<[f64; 3]> {
     block.design.centroids.iter().map(|c| [c.x, c.y, c.z]).collect()
 }
 
-/// Whether each build takes no longer than it may, by the best of some timings of it and of its neighbour, made in turn.
+fn timed(f: impl FnOnce()) -> f64 {
+    let began = Instant::now();
+    f();
+    began.elapsed().as_secs_f64()
+}
+
+/// Whether each build takes no longer than it may, by the best timings of it and of its neighbour, made in turn.
 pub fn builds() -> bool {
     let block = Block::new(BLOCKS[2]);
     let (middles, volumes) = (middles(&block), &block.design.volumes);
     let mut held = true;
     for n in COUNTS {
         let (mut at, mut before) = (Lists::of(n), Lists::of(n - 1));
-        let times =
-            best(9, || at.build(black_box(&middles[..n]), &volumes[..n]), || before.build(black_box(&middles[..n - 1]), &volumes[..n - 1]));
-        let ratio = times.0 / times.1;
+        let (mut least, mut beside) = (f64::INFINITY, f64::INFINITY);
+        for _ in 0..TIMINGS {
+            least = least.min(timed(|| at.build(black_box(&middles[..n]), &volumes[..n])));
+            beside = beside.min(timed(|| before.build(black_box(&middles[..n - 1]), &volumes[..n - 1])));
+        }
+        let ratio = least / beside;
         let verdict = if ratio <= MOST { "" } else { "  too slow" };
         println!("filter's build at {} elements, by that of one less: {ratio:.2}, at most {MOST}{verdict}", grouped(n));
         held &= ratio <= MOST;

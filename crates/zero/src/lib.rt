@@ -9,7 +9,7 @@ pub fn words(l: &mut [u32])
 {
     let mut i = 0usize;
     while i < l.len() {
-        l[i] = 0;
+        l[i] = 0u32;
         i += 1usize;
     }
 }
@@ -19,7 +19,7 @@ pub fn longs(l: &mut [u64])
 {
     let mut i = 0usize;
     while i < l.len() {
-        l[i] = 0;
+        l[i] = 0u64;
         i += 1usize;
     }
 }
