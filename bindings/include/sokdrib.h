@@ -4,7 +4,7 @@
 /* Refusals.
  *
  * A call that refuses hands back a number and no words: document 01, "What a refusal hands back". In C it is the result,
- * its field refused or refusal, or with reply 0 its field number; in Rust it is Err(Refused(number)). What is left is
+ * its field refused, or with reply 0 its field number; in Rust it is Err(Refused(number)). What is left is
  *
  * - kept: the state and every list are as before. The same call may be made again with what was wrong put right; where it
  *   was an answer, its question still stands.
@@ -77,7 +77,7 @@ typedef struct {
 } SokdribMirror;
 
 typedef struct {
-    uint32_t refusal;
+    uint32_t refused;
     uint32_t nodes;
     uint32_t tets;
     uint32_t tris;

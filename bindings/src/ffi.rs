@@ -24,7 +24,7 @@ const _: () = assert!(size_of::<Mirror>() == 48 && align_of::<Mirror>() == 8);
 #[repr(C)]
 #[derive(Clone, Copy, Debug, Default, PartialEq)]
 pub struct Made {
-    pub refusal: u32,
+    pub refused: u32,
     pub nodes: u32,
     pub tets: u32,
     pub tris: u32,

@@ -55,5 +55,5 @@ pub fn block(cells: [usize; 3], size: Vec3, lent: Lent<'_>) -> Result<Counts, Re
     let [nx, ny, nz] = cells;
     let made = ffi::sokdrib_block(nx, ny, nz, size, lent.nodes, lent.tets, lent.surfaces, lent.tris, lent.edges);
     let counts = Counts { nodes: made.nodes as usize, tets: made.tets as usize, tris: made.tris as usize };
-    refusal(made.refusal).map(|()| counts)
+    refusal(made.refused).map(|()| counts)
 }

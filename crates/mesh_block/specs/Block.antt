@@ -34,12 +34,12 @@ refusalOf g n t s r w =
 
 -- what `block` leaves, with the counts: on a refusal the lists as they were lent, and no counts. The working list is zero as far as it was needed
 pub record Built (g : Grid) (nodes nodes′ : List (List Float)) (tets tets′ : List (List ℕ)) (surfaces surfaces′ : List ℕ) (tris tris′ : List (List ℕ)) (edges edges′ : List ℕ) (r : Made) : Type 0 where
-  pub refusal : r .refusal ≡ refusalOf g (length nodes) (length tets) (length surfaces) (length tris) (length edges)
-  pub node-count : r .nodes ≡ unless (r .refusal) (cornersIn g + length (edgesIn g)) 0
-  pub tet-count : r .tets ≡ unless (r .refusal) (tetsIn g) 0
-  pub tri-count : r .tris ≡ unless (r .refusal) (length (trianglesIn g)) 0
-  pub nodes-are : nodes′ ≡ unless (r .refusal) (overwrite (nodeWith g (edgesIn g)) (cornersIn g + length (edgesIn g)) nodes) nodes
-  pub tets-are : tets′ ≡ unless (r .refusal) (overwrite (tetOf g) (tetsIn g) tets) tets
-  pub surfaces-are : surfaces′ ≡ unless (r .refusal) (overwrite (λ k. getD (trianglesIn g) k (0, []) .0) (length (trianglesIn g)) surfaces) surfaces
-  pub tris-are : tris′ ≡ unless (r .refusal) (overwrite (λ k. getD (trianglesIn g) k (0, []) .1) (length (trianglesIn g)) tris) tris
-  pub edges-are : edges′ ≡ unless (r .refusal) (overwrite (λ k. 0) (slotsIn g) edges) edges
+  pub refusal : r .refused ≡ refusalOf g (length nodes) (length tets) (length surfaces) (length tris) (length edges)
+  pub node-count : r .nodes ≡ unless (r .refused) (cornersIn g + length (edgesIn g)) 0
+  pub tet-count : r .tets ≡ unless (r .refused) (tetsIn g) 0
+  pub tri-count : r .tris ≡ unless (r .refused) (length (trianglesIn g)) 0
+  pub nodes-are : nodes′ ≡ unless (r .refused) (overwrite (nodeWith g (edgesIn g)) (cornersIn g + length (edgesIn g)) nodes) nodes
+  pub tets-are : tets′ ≡ unless (r .refused) (overwrite (tetOf g) (tetsIn g) tets) tets
+  pub surfaces-are : surfaces′ ≡ unless (r .refused) (overwrite (λ k. getD (trianglesIn g) k (0, []) .0) (length (trianglesIn g)) surfaces) surfaces
+  pub tris-are : tris′ ≡ unless (r .refused) (overwrite (λ k. getD (trianglesIn g) k (0, []) .1) (length (trianglesIn g)) tris) tris
+  pub edges-are : edges′ ≡ unless (r .refused) (overwrite (λ k. 0) (slotsIn g) edges) edges

@@ -10,7 +10,7 @@ use mesh_lattice::Grid;
 // The counts of a mesh; or the refusal, with no counts.
 #[repr(C)]
 pub struct Made {
-    pub refusal: u32,
+    pub refused: u32,
     pub nodes: u32,
     pub tets: u32,
     pub tris: u32,
@@ -81,7 +81,7 @@ fn fill(
     );
     if r > 0 {
         return Made {
-            refusal: r,
+            refused: r,
             nodes: 0,
             tets: 0,
             tris: 0,
@@ -90,7 +90,7 @@ fn fill(
     let n = mesh_lattice::build(g, nodes, tets, edges);
     let t = mesh_triangles::triangles(g, tets, surfaces, tris);
     Made {
-        refusal: 0,
+        refused: 0,
         nodes: n as u32,
         tets: mesh_lattice::tet_count(g) as u32,
         tris: t as u32,

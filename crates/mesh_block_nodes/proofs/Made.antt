@@ -16,10 +16,10 @@ use Rattle.mesh_block_nodes.specs.Points.{NodesMade}
 use Rattle.mesh_block_nodes.proofs.Count.{node-count}
 
 made-nodes : (g : Grid) → Positive g → {nodes nodes′ : List (List Float)} {tets tets′ tris tris′ : List (List ℕ)} {surfaces surfaces′ edges edges′ : List ℕ} {r : Made}
-    → Built g nodes nodes′ tets tets′ surfaces surfaces′ tris tris′ edges edges′ r → r .refusal ≡ 0 → NodesMade g (length nodes) r
+    → Built g nodes nodes′ tets tets′ surfaces surfaces′ tris tris′ edges edges′ r → r .refused ≡ 0 → NodesMade g (length nodes) r
 made-nodes g p {nodes} {nodes′} {tets} {tets′} {tris} {tris′} {surfaces} {surfaces′} {edges} {edges′} {r} b z =
     let a = accepted g (length nodes) (length tets) (length surfaces) (length tris) (length edges) (sym (b .refusal) ∙ z) in
-    let n = b .node-count ∙ sym (unless-accepted (r .refusal) _ 0 z) ∙ node-count g p in
+    let n = b .node-count ∙ sym (unless-accepted (r .refused) _ 0 z) ∙ node-count g p in
     record { count = n; few = omega (arith, n, a .few-nodes); fit = omega (arith, n, a .nodes) }
 
 -- "Cells of 0 count as 1."
@@ -28,5 +28,5 @@ unfolding gridOf
 grid-positive cells s = record { x = omega arith; y = omega arith; z = omega arith }
 
 pub block-nodes : (cells : List ℕ) (s : Vec3) {nodes nodes′ : List (List Float)} {tets tets′ tris tris′ : List (List ℕ)} {surfaces surfaces′ edges edges′ : List ℕ} {r : Made}
-    → Built (gridOf cells s) nodes nodes′ tets tets′ surfaces surfaces′ tris tris′ edges edges′ r → r .refusal ≡ 0 → NodesMade (gridOf cells s) (length nodes) r
+    → Built (gridOf cells s) nodes nodes′ tets tets′ surfaces surfaces′ tris tris′ edges edges′ r → r .refused ≡ 0 → NodesMade (gridOf cells s) (length nodes) r
 block-nodes cells s b z = made-nodes (gridOf cells s) (grid-positive cells s) b z

@@ -16,7 +16,7 @@ fn is_made(m: Made) -> bool {
     let nodes = word();
     let tets = word();
     let tris = word();
-    (m.refusal == 0) & (m.nodes as u64 == nodes) & (m.tets as u64 == tets) & (m.tris as u64 == tris)
+    (m.refused == 0) & (m.nodes as u64 == nodes) & (m.tets as u64 == tets) & (m.tris as u64 == tris)
 }
 
 pub fn block() -> bool {

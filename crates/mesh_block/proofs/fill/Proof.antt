@@ -23,7 +23,7 @@ positive r h z = omega arith
 -- where nothing is refused
 module _ (c : tie.Else1) where
   ok : Accepted (c .before .before .before .before .args .g) (length (c .before .before .before .before .args .nodes .now)) (length (c .before .before .before .before .args .tets .now)) (length (c .before .before .before .before .args .surfaces .now)) (length (c .before .before .before .before .args .tris .now)) (length (c .before .before .before .before .args .edges .now))
-  ok = accepted _ _ _ _ _ _ (sym (c .before .refusal .ensures) ∙ none _ (c .if1 .left))
+  ok = accepted _ _ _ _ _ _ (sym (c .before .refusal .ensures) ∙ at-most-zero _ (c .if1 .left))
 
   small : Small (c .before .before .before .before .args .g)
   small = small-of _ (c .before .before .before .before .pre) (ok .few-tets)

@@ -52,7 +52,7 @@ returns c = record {
 }
 
 loop-holds : tie.Need-loop-holds Inv-loop μ-loop
-loop-holds c = let long = long-enough _ _ _ _ (sym (c .before .refusal .ensures) ∙ none _ (c .if1 .left)) in
+loop-holds c = let long = long-enough _ _ _ _ (sym (c .before .refusal .ensures) ∙ at-most-zero _ (c .if1 .left)) in
     (omega arith, long .0, long .1, refl, refl, sym (overwrite-none _ _), sym (overwrite-none _ _))
 
 mul-volume : tie.Need-mul-volume Inv-loop μ-loop
