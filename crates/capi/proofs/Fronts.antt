@@ -1,16 +1,18 @@
 -- What the tests of lent lists tell, and what is left in the lists: by cases of the number, and of a list taken apart at n.
-use mathlib.Core.Path.{_≡_, refl, sym, _∙_}
+use mathlib.Core.Path.{_≡_, sym, _∙_}
 use mathlib.Core.Bool.{Bool, false, not, _||_}
 use mathlib.Core.List.{List, _++_}
-use Prim.Native.Nat.{ℕ, zero, suc, _≤_}
+use Prim.Native.Nat.{ℕ, _≤_}
 use native.Mathlib.Omega.{arith}
 use lib.ListN.{length, take, drop}
-use lib.Seq.{length-take-le, length-front, drop-at}
+use lib.Seq.{length-take-le}
 use lib.Dec.{eqb, ltb}
 use borrow.Author.Tests.{eqb-true, ltb-false, not-false}
 use Rattle.lists.specs.Lists.{overlay}
 use Rattle.lists.proofs.Laws.{passes-on, neither}
-use Rattle.capi.specs.Lent.{refusalOf, unless, left, Used}
+use Rattle.lent.specs.Lent.{leftBy}
+use Rattle.lent.proofs.Lent.{unless-refused, unless-accepted}
+use Rattle.capi.specs.Lent.{refusalOf}
 
 pub accepted : (number : ℕ) (differ short : Bool) → number ≡ refusalOf differ short → number ≡ 0 → (differ ≡ false) × (short ≡ false)
 accepted number differ short e z =
@@ -35,32 +37,14 @@ three-fit number n a b d differ e z =
     let q = neither (ltb a n) (ltb b n) (p .0) in
     (ltb-false a n (q .0), ltb-false b n (q .1), ltb-false d n (p .1))
 
-pub unless-refused : {A : Type 0} (number : ℕ) (a b : A) → (number ≡ 0 → ⊥) → b ≡ unless number a b
-unfolding unless
-unless-refused zero a b e = absurd (e refl)
-unless-refused (suc k) a b e = refl
-
-pub unless-accepted : {A : Type 0} (number : ℕ) (a b : A) → number ≡ 0 → a ≡ unless number a b
-unfolding unless
-unless-accepted number a b z = rw z
-
 module _ {A : Type 0} where
   -- lists of a call that is refused
-  pub kept : (number : ℕ) (new l : List A) → (number ≡ 0 → ⊥) → l ≡ left number new l
+  pub kept : (number : ℕ) (new l : List A) → (number ≡ 0 → ⊥) → l ≡ leftBy number new l
   kept number new l e = unless-refused number (overlay new l) l e
 
-  pub not-used : (number n : ℕ) (l : List A) → (number ≡ 0 → ⊥) → Used number n l l
-  unfolding Used
-  not-used zero n l e = absurd (e refl)
-  not-used (suc k) n l e = refl
-
-  -- a front part that is written, and one that is used
-  pub written : (number n : ℕ) (new part l : List A) → number ≡ 0 → n ≤ length l → length part ≡ length (take n l) → part ≡ new → part ++ drop n l ≡ left number new l
+  -- a front part that is written
+  pub written : (number n : ℕ) (new part l : List A) → number ≡ 0 → n ≤ length l → length part ≡ length (take n l) → part ≡ new → part ++ drop n l ≡ leftBy number new l
   unfolding overlay
   written number n new part l z h e w =
       let same : part ++ drop n l ≡ overlay new l = rw (sym w, e, length-take-le n l h) in
       same ∙ unless-accepted number (overlay new l) l z
-
-  pub used : (number n : ℕ) (part l : List A) → number ≡ 0 → n ≤ length l → length part ≡ length (take n l) → Used number n l (part ++ drop n l)
-  unfolding Used
-  used number n part l z h e = rw z (length-front l part n e, drop-at part (drop n l) n (e ∙ length-take-le n l h))

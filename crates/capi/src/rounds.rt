@@ -13,7 +13,8 @@ ghost use Rattle.oc_seen.specs.Seen.{seenDensity, seenSlope};
 ghost use Rattle.oc_slopes.specs.Slopes.{workSlope, volumeSlope};
 ghost use Rattle.oc_kept.specs.Kept.{keptOf};
 ghost use Rattle.oc_record.specs.Record.{complianceOf, fractionOf, changeOf, greyOf};
-ghost use Rattle.capi.specs.Lent.{refusalOf, unless, left, Used};
+ghost use Rattle.capi.specs.Lent.{refusalOf};
+ghost use Rattle.lent.specs.Lent.{unless, leftBy, WorkedBy};
 ghost use Rattle.capi.specs.Numbers.{sharpnessOf, ruleOf};
 use oc_kept::Rule;
 use oc_seen::Sharpness;
@@ -62,10 +63,10 @@ pub extern "C" fn sokdrib_start(
     ensures { λ r. ⌜ (r .refused ≡ refusalOf (not (eqb (length (now (passive .entry))) (length (now (volumes .entry))))) (ltb (length (now (design .entry))) (length (now (volumes .entry))) || ltb (length (now (free .entry))) (length (now (volumes .entry))))) ⌝ }
     ensures { λ r. ⌜ (r .total ≡ unless (r .refused) (sumTo (λ k. getD (now (volumes .entry)) k nan) (length (now (volumes .entry)))) zero64) × (r .solid ≡ unless (r .refused) (solidVolume (now (volumes .entry)) (now (passive .entry))) zero64) ⌝ }
     ensures { λ r. ⌜ (r .target ≡ unless (r .refused) (targetOf fraction (r .total)) zero64) × (r .tolerance ≡ unless (r .refused) (toleranceOf (r .total)) zero64) × (r .density ≡ unless (r .refused) (startDensity (r .solid) (r .total) (r .target)) zero64) ⌝ }
-    ensures { λ r. ⌜ (now (design .exit) ≡ left (r .refused) (startDesign (now (passive .entry)) (r .density)) (now (design .entry))) × (now (free .exit) ≡ left (r .refused) (freeVolumes (now (volumes .entry)) (now (passive .entry))) (now (free .entry))) ⌝ }
+    ensures { λ r. ⌜ (now (design .exit) ≡ leftBy (r .refused) (startDesign (now (passive .entry)) (r .density)) (now (design .entry))) × (now (free .exit) ≡ leftBy (r .refused) (freeVolumes (now (volumes .entry)) (now (passive .entry))) (now (free .entry))) ⌝ }
 {
     let n = volumes.len();
-    let refused = crate::lent::refusal(passive.len() != n, (design.len() < n) | (free.len() < n));
+    let refused = crate::lengths::refusal(passive.len() != n, (design.len() < n) | (free.len() < n));
     if refused != 0 {
         return Start {
             refused,
@@ -130,11 +131,11 @@ pub extern "C" fn sokdrib_see(
     slope: &mut [f64],
 ) -> u32
     ensures { λ r. ⌜ r ≡ refusalOf (not (eqb (length (now (x .entry))) (length (now (passive .entry))))) (ltb (length (now (density .entry))) (length (now (passive .entry))) || ltb (length (now (slope .entry))) (length (now (passive .entry)))) ⌝ }
-    ensures { λ r. ⌜ now (density .exit) ≡ left r (seenDensity (sharpnessOf sharpen beta) (now (starts .entry)) (now (near .entry)) (now (coef .entry)) (now (passive .entry)) (now (x .entry))) (now (density .entry)) ⌝ }
-    ensures { λ r. ⌜ now (slope .exit) ≡ left r (seenSlope (sharpnessOf sharpen beta) (now (starts .entry)) (now (near .entry)) (now (coef .entry)) (now (passive .entry)) (now (x .entry))) (now (slope .entry)) ⌝ }
+    ensures { λ r. ⌜ now (density .exit) ≡ leftBy r (seenDensity (sharpnessOf sharpen beta) (now (starts .entry)) (now (near .entry)) (now (coef .entry)) (now (passive .entry)) (now (x .entry))) (now (density .entry)) ⌝ }
+    ensures { λ r. ⌜ now (slope .exit) ≡ leftBy r (seenSlope (sharpnessOf sharpen beta) (now (starts .entry)) (now (near .entry)) (now (coef .entry)) (now (passive .entry)) (now (x .entry))) (now (slope .entry)) ⌝ }
 {
     let n = passive.len();
-    let refused = crate::lent::refusal(x.len() != n, (density.len() < n) | (slope.len() < n));
+    let refused = crate::lengths::refusal(x.len() != n, (density.len() < n) | (slope.len() < n));
     if refused != 0 {
         return refused;
     }
@@ -167,11 +168,11 @@ pub extern "C" fn sokdrib_work_slope(
     out: &mut [f64],
 ) -> u32
     ensures { λ r. ⌜ r ≡ refusalOf (not (eqb (length (now (density .entry))) (length (now (passive .entry)))) || not (eqb (length (now (slope .entry))) (length (now (passive .entry)))) || not (eqb (length (now (energies .entry))) (length (now (passive .entry))))) (ltb (length (now («by_density» .entry))) (length (now (passive .entry))) || ltb (length (now (out .entry))) (length (now (passive .entry)))) ⌝ }
-    ensures { λ r. ⌜ now (out .exit) ≡ left r (workSlope (now (starts .entry)) (now (near .entry)) (now (coef .entry)) (now (passive .entry)) (now (density .entry)) (now (slope .entry)) (now (energies .entry))) (now (out .entry)) ⌝ }
-    ensures { λ r. ⌜ Used r (length (now (passive .entry))) (now («by_density» .entry)) (now («by_density» .exit)) ⌝ }
+    ensures { λ r. ⌜ now (out .exit) ≡ leftBy r (workSlope (now (starts .entry)) (now (near .entry)) (now (coef .entry)) (now (passive .entry)) (now (density .entry)) (now (slope .entry)) (now (energies .entry))) (now (out .entry)) ⌝ }
+    ensures { λ r. ⌜ WorkedBy r (length (now (passive .entry))) (now («by_density» .entry)) (now («by_density» .exit)) ⌝ }
 {
     let n = passive.len();
-    let refused = crate::lent::refusal(
+    let refused = crate::lengths::refusal(
         (density.len() != n) | (slope.len() != n) | (energies.len() != n),
         (by_density.len() < n) | (out.len() < n),
     );
@@ -205,11 +206,11 @@ pub extern "C" fn sokdrib_volume_slope(
     out: &mut [f64],
 ) -> u32
     ensures { λ r. ⌜ r ≡ refusalOf (not (eqb (length (now (free .entry))) (length (now (slope .entry))))) (ltb (length (now («by_density» .entry))) (length (now (slope .entry))) || ltb (length (now (out .entry))) (length (now (slope .entry)))) ⌝ }
-    ensures { λ r. ⌜ now (out .exit) ≡ left r (volumeSlope (now (starts .entry)) (now (near .entry)) (now (coef .entry)) (now (slope .entry)) (now (free .entry))) (now (out .entry)) ⌝ }
-    ensures { λ r. ⌜ Used r (length (now (slope .entry))) (now («by_density» .entry)) (now («by_density» .exit)) ⌝ }
+    ensures { λ r. ⌜ now (out .exit) ≡ leftBy r (volumeSlope (now (starts .entry)) (now (near .entry)) (now (coef .entry)) (now (slope .entry)) (now (free .entry))) (now (out .entry)) ⌝ }
+    ensures { λ r. ⌜ WorkedBy r (length (now (slope .entry))) (now («by_density» .entry)) (now («by_density» .exit)) ⌝ }
 {
     let n = slope.len();
-    let refused = crate::lent::refusal(free.len() != n, (by_density.len() < n) | (out.len() < n));
+    let refused = crate::lengths::refusal(free.len() != n, (by_density.len() < n) | (out.len() < n));
     if refused != 0 {
         return refused;
     }
@@ -252,10 +253,10 @@ pub extern "C" fn sokdrib_kept(
 ) -> Kept
     ensures { λ r. ⌜ r .refused ≡ refusalOf (not (eqb (length (now (volumes .entry))) (length (now (passive .entry)))) || not (eqb (length (now (y .entry))) (length (now (passive .entry))))) (ltb (length (now (density .entry))) (length (now (passive .entry)))) ⌝ }
     ensures { λ r. ⌜ r .volume ≡ unless (r .refused) (keptOf (ruleOf rule value) (now (straight .entry)) (now (starts .entry)) (now (near .entry)) (now (coef .entry)) (now (volumes .entry)) (now (passive .entry)) (now (y .entry))) zero64 ⌝ }
-    ensures { λ r. ⌜ Used (r .refused) (length (now (passive .entry))) (now (density .entry)) (now (density .exit)) ⌝ }
+    ensures { λ r. ⌜ WorkedBy (r .refused) (length (now (passive .entry))) (now (density .entry)) (now (density .exit)) ⌝ }
 {
     let n = passive.len();
-    let refused = crate::lent::refusal((volumes.len() != n) | (y.len() != n), density.len() < n);
+    let refused = crate::lengths::refusal((volumes.len() != n) | (y.len() != n), density.len() < n);
     if refused != 0 {
         return Kept {
             refused,

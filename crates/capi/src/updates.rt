@@ -5,7 +5,8 @@ ghost use lib.ListN.{length};
 ghost use lib.Dec.{eqb, ltb};
 ghost use Rattle.update_design.specs.Design.{gainsOf};
 ghost use Rattle.update_rates.specs.Rates.{updated};
-ghost use Rattle.capi.specs.Lent.{refusalOf, unless, left, Used};
+ghost use Rattle.capi.specs.Lent.{refusalOf};
+ghost use Rattle.lent.specs.Lent.{unless, leftBy, WorkedBy};
 ghost use Rattle.c_update.specs.Numbers.{toldOf, refusedWith};
 ghost use Rattle.capi.specs.Numbers.{ruleOf, answerOf};
 use c_update::Update;
@@ -34,11 +35,11 @@ pub extern "C" fn sokdrib_update(
 ) -> Update
     ensures { λ r. ⌜ r .refused ≡ refusalOf (not (eqb (length (now (dc .entry))) (length (now (x .entry)))) || not (eqb (length (now (dv .entry))) (length (now (x .entry)))) || not (eqb (length (now (passive .entry))) (length (now (x .entry)))) || not (eqb (length (now (volumes .entry))) (length (now (x .entry))))) (ltb (length (now (design .entry))) (length (now (x .entry))) || ltb (length (now (gain .entry))) (length (now (x .entry))) || ltb (length (now (work .entry))) (length (now (x .entry)))) ⌝ }
     ensures { λ r. ⌜ r ≡ unless (r .refused) (toldOf (answerOf (record { x = now (x .entry); gain = gainsOf (now (dc .entry)) (now (dv .entry)); dv = now (dv .entry); passive = now (passive .entry); move = m; target = target; tolerance = tolerance; rule = ruleOf rule value; starts = now (starts .entry); near = now (near .entry); coef = now (coef .entry); volumes = now (volumes .entry) }))) (refusedWith (r .refused)) ⌝ }
-    ensures { λ r. ⌜ now (design .exit) ≡ left (r .refused) (updated (record { x = now (x .entry); gain = gainsOf (now (dc .entry)) (now (dv .entry)); dv = now (dv .entry); passive = now (passive .entry); move = m; target = target; tolerance = tolerance; rule = ruleOf rule value; starts = now (starts .entry); near = now (near .entry); coef = now (coef .entry); volumes = now (volumes .entry) }) .design) (now (design .entry)) ⌝ }
-    ensures { λ r. ⌜ (Used (r .refused) (length (now (x .entry))) (now (gain .entry)) (now (gain .exit))) × (Used (r .refused) (length (now (x .entry))) (now (work .entry)) (now (work .exit))) ⌝ }
+    ensures { λ r. ⌜ now (design .exit) ≡ leftBy (r .refused) (updated (record { x = now (x .entry); gain = gainsOf (now (dc .entry)) (now (dv .entry)); dv = now (dv .entry); passive = now (passive .entry); move = m; target = target; tolerance = tolerance; rule = ruleOf rule value; starts = now (starts .entry); near = now (near .entry); coef = now (coef .entry); volumes = now (volumes .entry) }) .design) (now (design .entry)) ⌝ }
+    ensures { λ r. ⌜ (WorkedBy (r .refused) (length (now (x .entry))) (now (gain .entry)) (now (gain .exit))) × (WorkedBy (r .refused) (length (now (x .entry))) (now (work .entry)) (now (work .exit))) ⌝ }
 {
     let n = x.len();
-    let refused = crate::lent::refusal(
+    let refused = crate::lengths::refusal(
         (dc.len() != n) | (dv.len() != n) | (passive.len() != n) | (volumes.len() != n),
         (design.len() < n) | (gain.len() < n) | (work.len() < n),
     );

@@ -7,7 +7,7 @@ use native.Mathlib.Omega.{arith}
 use lib.ListN.{length, take, set}
 use lib.Seq.{take-all, length-take-le, set-out}
 use lib.Ieee.{Float}
-use borrow.Author.Tests.{ltb-false, eqb-true, not-false}
+use borrow.Author.Tests.{eqb-true, not-false}
 use Rattle.lists.specs.Lists.{choose, overlay}
 use Rattle.lists.proofs.Laws.{neither}
 use Rattle.topo.specs.declared.Iteration.{Iteration}
@@ -24,6 +24,7 @@ use Rattle.run_plain.specs.declared.Verdict.the-variants.{Kept, Over, Halts, Be
 use Rattle.run_plain.specs.declared.Course.{Course}
 use Rattle.run_plain.specs.declared.Course.the-variants.{Onward, Ends}
 use Rattle.lent.specs.Lent.{short}
+use Rattle.lent.proofs.Lent.{not-short}
 use Rattle.run_plain.specs.Lent.{answerWork, runShort, answerShort}
 use Rattle.run_plain.specs.Formulas.{sharpness, see}
 use Rattle.run_plain.specs.Plain.{judged, firstStop}
@@ -38,10 +39,6 @@ use Rattle.run_answer.specs.Answers.{Work, lengthsOf, verdictIn, Scratch
 use Rattle.run_answer.specs.Steps.{Asks, Enough, questionAt, entryIn, designIn, Solved, Begun, Followed}
 
 -- ---- lists that suffice
-not-short : (k n : ℕ) (lengths needed : List ℕ) → short (k ∷ lengths) (n ∷ needed) ≡ false → (n ≤ k) × (short lengths needed ≡ false)
-unfolding short
-not-short k n lengths needed e = let p = neither _ _ e in (ltb-false _ _ (p .0), p .1)
-
 work-enough : (s : State) (l : Core) (room : ℕ) (w : Work) → answerShort (s .setting .elements) (s .setting .entries) (s .setting .«max_iterations») (sizesIn (lengthsOf w) l room) ≡ false → short (lengthsOf w) (answerWork (s .setting .elements)) ≡ false
 unfolding answerShort
 work-enough s l room w e = neither (runShort (s .setting .elements) (s .setting .«max_iterations») (sizesIn (lengthsOf w) l room) || short (length (l .volumes) ∷ length (l .passive) ∷ length (l .near) ∷ length (l .coef) ∷ []) (s .setting .elements ∷ s .setting .elements ∷ s .setting .entries ∷ s .setting .entries ∷ [])) _ e .1

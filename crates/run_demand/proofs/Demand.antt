@@ -5,19 +5,19 @@ use mathlib.Core.Bool.{true}
 use mathlib.Core.List.{List, [], _∷_, map}
 use Prim.Native.Nat.{ℕ}
 use lib.ListN.{take}
-use Rattle.run_plain.specs.declared.Phase.{Phase}
 use Rattle.run_plain.specs.declared.State.{State}
 use Rattle.run_plain.specs.declared.Reply.{Reply}
 use Rattle.run_plain.specs.declared.Reply.the-variants.{Refused, Solid, Round, Stop}
 use Rattle.run_plain.specs.Plain.{Out, Answer, Run, Seen, unopened}
 use Rattle.run_plain.specs.Runs.{Ended, recordedIn}
-use Rattle.run_plain.specs.Calls.{Result, World, openOf, answerOf, lend, worldAfter, outOf, leftAt, resultOf, callsFrom, callsShut, callsBy, callsRun, fed, NoRun, fresh, sound, soundIn, inTurn, worldOpen, worldFrom}
+use Rattle.run_plain.proofs.Whole.{closed-passes}
+use Rattle.run_plain.specs.Calls.{Result, World, openOf, answerOf, lend, worldAfter, outOf, leftAt, resultOf, callsFrom, callsShut, callsBy, callsRun, fed, NoRun, fresh, sound, inTurn, worldOpen, worldFrom}
 use Rattle.run_plain.specs.Demand.{OpenedRun, Stands, EndsAt}
 use Rattle.run_plain.proofs.Demand.{demand}
 use Rattle.run_bounds.specs.Bounds.{WithinRun}
 use Rattle.run_bounds.proofs.Runs.{within-run}
 use Rattle.run_demand.specs.Made.{MadeOpen, Made, openResult, answerResult, callOf, MetOpen, Met, AllMet, seenFrom, seenShut, seenBy, opened, seenRun, worldMade}
-use Rattle.run_demand.specs.Demand.{EndsMade, opening, answers, held, plainEnd, Demand3}
+use Rattle.run_demand.specs.Demand.{EndsMade, opening, answers, plainEnd, Demand3}
 
 -- ---- a call that meets its contract gives the function's result
 open-is : (w : World) (b : MadeOpen) → MetOpen w b → openResult b ≡ openOf (w .state) (b .asked) (b .lent .work) (lend (b .lent) (w .lists))
@@ -91,8 +91,7 @@ fresh-has-none = refl
 
 -- "all these pass 20's test, and an opening on them is in turn"
 pub none-passes : (s : State) → NoRun s → sound s ≡ true
-unfolding sound
-none-passes s e = ap (λ (p : Phase). soundIn p s) e
+none-passes = closed-passes
 
 pub none-in-turn : (s : State) → NoRun s → inTurn (s .phase) ≡ true
 none-in-turn s e = ap inTurn e

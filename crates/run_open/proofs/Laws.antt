@@ -14,7 +14,7 @@ use Rattle.lists.proofs.Laws.{neither, choose-false, length-tabulate, getD-tabu
 use Rattle.ieee.specs.Basic.{one64}
 use Rattle.filter.specs.Filter.{start}
 use Rattle.filter.specs.Build.{Lent, outcome, Built}
-use Rattle.lent.specs.Lent.{Outcome, zeroed, done, numberOf, left, Worked, short}
+use Rattle.lent.specs.Lent.{Outcome, zeroed, done, numberOf, left, Worked}
 use Rattle.run_plain.specs.declared.State.{State}
 use Rattle.run_plain.specs.declared.Reply.the-variants.{Refused}
 use Rattle.run_plain.specs.declared.Entry.the-variants.{Zeroed, Shut, Opens}
@@ -25,7 +25,7 @@ use Rattle.run_plain.specs.Calls.{Core, Asked, endedOf, inTurn, openedState}
 use Rattle.run_plain.proofs.Formulas.{length-start}
 use Rattle.run_plain.specs.declared.Returned.{Returned}
 use Rattle.run_open_checks.specs.Opens.{Work, openingIn, Left, CoreOpened}
-use Rattle.run_open_checks.proofs.Opens.{turn-law, kept-law, zeroed-law, shut-law, opens-law}
+use Rattle.run_open_checks.proofs.Opens.{kept-law, zeroed-law, shut-law, opens-law}
 use Rattle.run_open_checks.proofs.Outcome.{entry-kept, entry-zeroed, entry-last, passed, not-short, outcome-is}
 use Rattle.run_open.specs.Steps.{Lastly, ShutBy, BegunBy}
 
@@ -48,10 +48,6 @@ built-is = refl
 module _ (s : State) (g : Asked) (room : ℕ) (l : Core) (w : Work) where
   abbrev o : Opening
   o = openingIn g room l w
-
-  -- 20
-  pub out-of-turn : inTurn (s .phase) ≡ false → CoreOpened s g room l w (record { state = s; reply = Refused 20 }) l w
-  out-of-turn = turn-law s g room l w
 
   -- a refusal before the rows
   pub refused-law : (r : ℕ) → inTurn (s .phase) ≡ true → r ≡ firstRefusal o → 0 < r → CoreOpened s g room l w (record { state = s; reply = Refused r }) l w

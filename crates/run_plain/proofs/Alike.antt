@@ -1,6 +1,6 @@
 -- A call and a step of the plain run that stand alike: what they read is the same, so their parts, checks and stops are. Assumes nothing.
 use mathlib.Core.Path.{_≡_, refl, sym, ap, _∙_}
-use mathlib.Core.Bool.{Bool, true, false, not, _&&_}
+use mathlib.Core.Bool.{Bool, true, false, not}
 use mathlib.Core.List.{List, [], _∷_}
 use Prim.Native.Nat.{suc, _≤_, _<_, min}
 use native.Mathlib.Omega.{arith}
@@ -9,6 +9,7 @@ use lib.Dec.{ltb, leb, eqb}
 use lib.Ieee.{Float}
 use borrow.Author.Tests.{lt-ltb, le-leb, eq-eqb}
 use Rattle.lists.specs.Lists.{choose, overlay}
+use Rattle.lists.proofs.Bools.{and-true}
 use Rattle.topo.specs.declared.Iteration.{Iteration}
 use Rattle.oc_record.specs.Record.{complianceOf}
 use Rattle.run_plain.specs.declared.Phase.{Phase}
@@ -56,16 +57,12 @@ pub record Sim (l₀ : Lists) (r : Run) (s : State) (l : Lists) : Type 0 where
   pub climbs : Climbs (r .steep) (r .rows)
 
 -- ---- the part and the checks are the same
-holds : (a b : Bool) → a ≡ true → b ≡ true → (a && b) ≡ true
-holds true b p q = q
-holds false b p q = p
-
 in-range : (s : State) (f : Bool) (b : Steep) (rows : List Row) → s .setting .elements ≤ 65535 → Running f b rows s → inRange s ≡ true
 unfolding inRange
 in-range s f b rows h r =
     let m : stageOf b ≤ 4 = stage-most b in
     let e : s .progress .stage ≡ stageOf b = r .stage in
-    holds _ _ (holds _ _ (holds _ _ (le-leb (s .progress .stage) 4 (omega arith)) (lt-ltb (s .progress .«at_stage») 20 (r .few))) (lt-ltb (s .progress .steady) 5 (r .calm))) (le-leb (s .setting .elements) 65535 h)
+    and-true _ _ (and-true _ _ (and-true _ _ (le-leb (s .progress .stage) 4 (omega arith)) (lt-ltb (s .progress .«at_stage») 20 (r .few))) (lt-ltb (s .progress .steady) 5 (r .calm))) (le-leb (s .setting .elements) 65535 h)
 
 -- every state of a run passes 20's test
 pub sound-is : (p : Part) (r : Run) (s : State) → s .setting .elements ≤ 65535 → s .progress .rounds ≡ length (r .rows) → s .setting .«max_iterations» ≡ r .given .goal .«max_iterations» → Fits p r s → sound s ≡ true
@@ -73,10 +70,10 @@ unfolding sound
 sound-is nothing r s h d m f = ap (λ (x : Phase). soundIn x s) f
 sound-is solid r s h d m f =
     let z : s .progress .rounds ≡ 0 = d ∙ ap length (f .1) in
-    ap (λ (x : Phase). soundIn x s) (f .0) ∙ holds _ _ (in-range s _ _ _ h (f .2)) (eq-eqb _ _ z)
+    ap (λ (x : Phase). soundIn x s) (f .0) ∙ and-true _ _ (in-range s _ _ _ h (f .2)) (eq-eqb _ _ z)
 sound-is (round n) r s h d m f =
     let z : s .progress .rounds < s .setting .«max_iterations» = omega (arith, f .2) in
-    ap (λ (x : Phase). soundIn x s) (f .0) ∙ holds _ _ (in-range s _ _ _ h (f .3)) (lt-ltb _ _ z)
+    ap (λ (x : Phase). soundIn x s) (f .0) ∙ and-true _ _ (in-range s _ _ _ h (f .3)) (lt-ltb _ _ z)
 
 part-in : (p : Part) (r : Run) (s : State) → s .progress .rounds ≡ length (r .rows) → Fits p r s → partIn (s .phase) s ≡ p
 part-in nothing r s d f = ap (λ (x : Phase). partIn x s) f

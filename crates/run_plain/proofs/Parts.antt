@@ -6,11 +6,11 @@ use Prim.Native.Nat.{ℕ, zero, suc, _+_, _-_, _≤_, _<_, min}
 use native.Mathlib.Omega.{arith}
 use lib.ListN.{length, take, drop, set, length-append, length-take, length-drop, length-set, take-append-drop}
 use lib.Seq.{take-take, take-append-le, take-all, take-suc-set}
-use borrow.Author.Tests.{ltb-false}
 use Rattle.lists.specs.Lists.{overlay}
 use Rattle.lists.proofs.Laws.{neither}
 use Rattle.run_plain.specs.Lent.{Sizes, runShort, openShort, answerShort}
 use Rattle.lent.specs.Lent.{short}
+use Rattle.lent.proofs.Lent.{not-short}
 
 module _ {A : Type 0} where
   pub take-part : (n k : ℕ) (l : List A) → n ≤ length (take k l) → take n (take k l) ≡ take n l
@@ -95,10 +95,6 @@ pub record Enough (elements entries rounds : ℕ) (k : Sizes) : Type 0 where
   pub near : entries ≤ k .near
   pub coef : entries ≤ k .coef
   pub room : Room elements rounds k
-
-not-short : (k n : ℕ) (lengths needed : List ℕ) → short (k ∷ lengths) (n ∷ needed) ≡ false → (n ≤ k) × (short lengths needed ≡ false)
-unfolding short
-not-short k n lengths needed e = let p = neither _ _ e in (ltb-false _ _ (p .0), p .1)
 
 roomy : (elements rounds : ℕ) (k : Sizes) → runShort elements rounds k ≡ false → Room elements rounds k
 unfolding runShort

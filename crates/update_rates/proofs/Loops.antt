@@ -8,6 +8,7 @@ use lib.Dec.{ltb}
 use lib.Ieee.{Float, binary64, add, sub, mul, lt, le}
 use borrow.Author.Tests.{ltb-true, ltb-false}
 use Rattle.lists.specs.Lists.{choose}
+use Rattle.lists.proofs.Bools.{and-true, and-left-false, and-right-false}
 use Rattle.lists.proofs.Laws.{both}
 use Rattle.ieee.specs.Basic.{absOf}
 use Rattle.filter_table.specs.Table.{Wf}
@@ -58,16 +59,6 @@ module _ {A : Type 0} (p : A → Bool) (f : A → A) where
       none most k h l = omega arith
   while-over most k s false e h g = while-off (most - k) s (g refl)
 
-pub and-false : (a b : Bool) → a ≡ false → (a && b) ≡ false
-and-false a b e = rw e
-
-and-true : (a b : Bool) → a ≡ true → b ≡ true → (a && b) ≡ true
-and-true a b e h = rw (e, h)
-
-second-false : (a b : Bool) → b ≡ false → (a && b) ≡ false
-second-false true b e = e
-second-false false b e = refl
-
 -- a test that holds leaves a pass
 pub pass-left : (t : Bool) (k : ℕ) → (t && ltb k 200) ≡ true → (k + 1 ≤ 200) × (200 - (k + 1) < 200 - k)
 pass-left t k e = let h : k < 200 = ltb-true k 200 (both t (ltb k 200) e .1) in (omega arith, omega arith)
@@ -97,11 +88,11 @@ module _ (g : Given) (low high kept : Float) (design : List Float) (passes : ℕ
 
   pub raise-same : (y : List Float) → y ≡ trial g double → sameDesign y design ≡ true → whileTo (raises g) (raised g) (200 - passes) stand ≡ stand
   unfolding raises
-  raise-same y f d = while-off (raises g) (raised g) (200 - passes) stand (second-false (lt (g .target) kept) (not (sameDesign (trial g double) design)) (ap not (sym (ap (λ (l : List Float). sameDesign l design) f) ∙ d)))
+  raise-same y f d = while-off (raises g) (raised g) (200 - passes) stand (and-right-false (lt (g .target) kept) (not (sameDesign (trial g double) design)) (ap not (sym (ap (λ (l : List Float). sameDesign l design) f) ∙ d)))
 
   pub raise-over : (lt (g .target) kept && ltb passes 200) ≡ false → passes ≤ 200 → whileTo (raises g) (raised g) (200 - passes) stand ≡ stand
   unfolding raises
-  raise-over t h = while-over (raises g) (raised g) 200 passes stand (lt (g .target) kept) t h (and-false (lt (g .target) kept) (not (sameDesign (trial g double) design)))
+  raise-over t h = while-over (raises g) (raised g) 200 passes stand (lt (g .target) kept) t h (and-left-false (lt (g .target) kept) (not (sameDesign (trial g double) design)))
 
   abbrev far : Bool
   far = lt (g .tolerance) (absOf (sub binary64 kept (g .target)))
@@ -126,8 +117,8 @@ module _ (g : Given) (low high kept : Float) (design : List Float) (passes : ℕ
 
   pub halve-none : (le mean low || le high mean) ≡ true → whileTo (halves g) (halved g) (200 - passes) stand ≡ stand
   unfolding halves middle
-  halve-none b = while-off (halves g) (halved g) (200 - passes) stand (second-false far (not (le mean low || le high mean)) (ap not b))
+  halve-none b = while-off (halves g) (halved g) (200 - passes) stand (and-right-false far (not (le mean low || le high mean)) (ap not b))
 
   pub halve-over : (off : Float) → off ≡ absOf (sub binary64 kept (g .target)) → (lt (g .tolerance) off && ltb passes 200) ≡ false → passes ≤ 200 → whileTo (halves g) (halved g) (200 - passes) stand ≡ stand
   unfolding halves middle
-  halve-over off o t h = while-over (halves g) (halved g) 200 passes stand (lt (g .tolerance) off) t h (λ e. and-false far (not (le mean low || le high mean)) (ap (lt (g .tolerance)) (sym o) ∙ e))
+  halve-over off o t h = while-over (halves g) (halved g) 200 passes stand (lt (g .tolerance) off) t h (λ e. and-left-false far (not (le mean low || le high mean)) (ap (lt (g .tolerance)) (sym o) ∙ e))

@@ -10,7 +10,8 @@ use Rattle.ieee.specs.Basic.{absOf}
 use Rattle.update_rates.specs.Rates.{half}
 use Rattle.update_rates.specs.Rates.{Given, Search, trial, reckoned, firstRate, first, raises, raised, halves, halved, whileTo, raisedAll, updated}
 use Rattle.update_rates.specs.Steps.{more, off, standAt}
-use Rattle.update_rates.proofs.Loops.{while-off, and-false, halve-more, halve-none, halve-over}
+use Rattle.lists.proofs.Bools.{and-left-false}
+use Rattle.update_rates.proofs.Loops.{while-off, halve-more, halve-none, halve-over}
 
 module _ (g : Given) (low high rate : Float) (passes : ℕ) where
   abbrev at : Float → Float
@@ -42,7 +43,7 @@ pub searched : (g : Given) (start low high rate kept : Float) (passes : ℕ) (d 
 unfolding more standAt first raises raisedAll updated
 searched g start low high rate kept passes d e n s y k =
     let f : standAt g zero64 start start 1 ≡ first g = ap (λ (r : Float). standAt g zero64 r r 1) e in
-    let r : raises g (first g) ≡ false = and-false _ _ (sym (ap (λ (v : Float). lt (g .target) (reckoned g (trial g v))) e) ∙ n) in
+    let r : raises g (first g) ≡ false = and-left-false _ _ (sym (ap (λ (v : Float). lt (g .target) (reckoned g (trial g v))) e) ∙ n) in
     let a : first g ≡ raisedAll g = sym (while-off (raises g) (raised g) 199 (first g) r) in
     let b : standAt g zero64 start start 1 ≡ raisedAll g = f ∙ a in
     (λ i. record { low = low; high = high; design = y i; kept = (k ∙ ap (reckoned g) y) i; passes = passes })

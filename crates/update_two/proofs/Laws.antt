@@ -1,13 +1,13 @@
 -- The volume kept by what each element adds. Assumes nothing.
-use mathlib.Core.Path.{_≡_, refl, sym, ap, _∙_}
+use mathlib.Core.Path.{_≡_, sym, ap, _∙_}
 use mathlib.Core.Bool.{Bool, false}
 use mathlib.Core.List.{List}
-use Prim.Native.Nat.{ℕ, zero, suc, _+_, _<_, min}
+use Prim.Native.Nat.{ℕ, _+_, min}
 use native.Mathlib.Omega.{arith}
 use lib.ListN.{length, getD}
 use lib.Ieee.{Float, nan, binary64, add, mul, div}
-use Rattle.lists.specs.Lists.{tabulate, foldTo, sumTo, choose}
-use Rattle.lists.proofs.Laws.{sumTo-more, getD-tabulate, length-tabulate}
+use Rattle.lists.specs.Lists.{tabulate, sumTo, choose}
+use Rattle.lists.proofs.Laws.{sumTo-more, getD-tabulate, length-tabulate, sumTo-same}
 use Rattle.ieee.specs.Basic.{one64, clampOf}
 use Rattle.ieee_tanh.specs.Tanh.{tanhOf}
 use Rattle.filter_table.specs.Table.{rowSum, applied}
@@ -36,14 +36,6 @@ module _ (beta : Float) (starts near : List ℕ) (coef volumes : List Float) (pa
   part-at b n e = ap (λ (v : Float). sumTo (part v starts near coef volumes passive y) n) e
 
   -- ---- all of them
-  sum-same : (u v : ℕ → Float) (n : ℕ) → ((k : ℕ) → k < n → u k ≡ v k) → sumTo u n ≡ sumTo v n
-  unfolding sumTo foldTo
-  sum-same u v zero h = refl
-  sum-same u v (suc n) h =
-      let t : sumTo u n ≡ sumTo v n = sum-same u v n (λ k l. h k (omega arith)) in
-      let s : u n ≡ v n = h n (omega arith) in
-      λ i. add binary64 (t i) (s i)
-
   -- an element's density, by the list of the filtered values
   abbrev seen : ℕ → Float
   seen e = elementDensity (At beta) (getD passive e false) (getD (tabulate sums (length passive)) e nan)
@@ -52,6 +44,6 @@ module _ (beta : Float) (starts near : List ℕ) (coef volumes : List Float) (pa
   unfolding dot seenDensity densities applied part
   parts-are =
       let share : ℕ → Float = λ k. mul binary64 (getD volumes k nan) (getD (tabulate seen (length passive)) k nan) in
-      sum-same (part beta starts near coef volumes passive y) share (min (length volumes) (length passive))
+      sumTo-same (part beta starts near coef volumes passive y) share (min (length volumes) (length passive))
       (λ k h. ap (mul binary64 (getD volumes k nan)) (sym (getD-tabulate seen (length passive) k nan (omega arith) ∙ ap (elementDensity (At beta) (getD passive k false)) (getD-tabulate sums (length passive) k nan (omega arith)))))
       ∙ ap (λ (n : ℕ). sumTo share (min (length volumes) n)) (sym (length-tabulate seen (length passive)))

@@ -7,7 +7,8 @@ use denote.Ref.{now}
 use borrow.Author.Tests.{not-true, not-false}
 use Rattle.run_plain.specs.Calls.{Core, Asked}
 use Rattle.run_open_checks.specs.Opens.{Work}
-use Rattle.run_open.proofs.Laws.{out-of-turn, refused-law, rows-law, starts-fit, design-fits, density-fits, last-law}
+use Rattle.run_open_checks.proofs.Opens.{turn-law}
+use Rattle.run_open.proofs.Laws.{refused-law, rows-law, starts-fit, design-fits, density-fits, last-law}
 use borrow.Author.Needs.{needs}
 use Rattle.run_open.proofs.open_core.Statement.{statement}
 use Rattle.run_open.proofs.open_core.Tie as tie
@@ -24,7 +25,7 @@ returns c =
     let g : Asked = record { centroids = now (a .centroids); mirrors = now (a .mirrors); goal = a .goal; flag = a .flag } in
     let l : Core = record { volumes = now (a .volumes); passive = now (a .passive); starts = now (a .starts); near = now (a .near); coef = now (a .coef); design = now (a .design); density = now (a .density); last = now (a .last) } in
     let w : Work = record { cell = now (a .cell); order = now (a .order); first = now (a .first); sorted = now (a .sorted); stamp = now (a .stamp); weight = now (a .weight); found = now (a .found); bits = now (a .bits) } in
-    out-of-turn (a .state) g (a .room) l w (sym (c .before .in-turn .ensures) ∙ not-true _ (c .if1 .taken))
+    turn-law (a .state) g (a .room) l w (sym (c .before .in-turn .ensures) ∙ not-true _ (c .if1 .taken))
 
 refusal-requires : tie.Need-refusal-requires
 refusal-requires c κs = search needs

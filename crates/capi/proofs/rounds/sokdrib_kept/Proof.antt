@@ -5,7 +5,8 @@ use mathlib.Core.Path.{_≡_, refl, sym, _∙_}
 use Prim.Native.Nat.{ℕ}
 use native.Mathlib.Omega.{arith}
 use lib.Seq.{length-take-le}
-use Rattle.capi.proofs.Fronts.{one-fits, unless-refused, unless-accepted, not-used, used}
+use Rattle.lent.proofs.Lent.{unless-refused, unless-accepted, worked-same, worked-front}
+use Rattle.capi.proofs.Fronts.{one-fits}
 use borrow.Author.Needs.{needs}
 use Rattle.capi.proofs.rounds.sokdrib_kept.Statement.{statement}
 use Rattle.capi.proofs.rounds.sokdrib_kept.Tie as tie
@@ -14,7 +15,7 @@ refusal-requires : tie.Need-refusal-requires
 refusal-requires c κs = search needs
 
 returns : tie.Need-returns
-returns c = (c .before .refusal .ensures, (unless-refused _ _ _ (c .if1 .taken), not-used _ _ _ (c .if1 .taken)))
+returns c = (c .before .refusal .ensures, (unless-refused _ _ _ (c .if1 .taken), worked-same _ _ _))
 
 rule-of-requires : tie.Need-rule-of-requires
 rule-of-requires c κs = search needs
@@ -36,7 +37,7 @@ returns-2 c =
     let a = c .before .before .before .before .before .before .before .before .before .before .before .before .before .before .before .args in
     let z = c .before .before .before .before .before .if1 .left in
     let called = c .before .before .kept in
-    (sym z ∙ c .before .before .before .before .before .before .refusal .ensures, (rw (c .before .before .before .before .rule-of .ensures) at (called .ensures) ∙ unless-accepted 0 _ _ refl, used 0 (length (now (a .passive))) (called .last .1 .1 .1 .1 .1 .1 .1 .1 .1 .0) (now (a .density)) refl (one-fits _ _ _ _ (c .before .before .before .before .before .before .refusal .ensures) (c .before .before .before .before .before .if1 .left)) (called .kept .1 .1 .1 .1 .1 .1 .1 .1 .1 .0)))
+    (sym z ∙ c .before .before .before .before .before .before .refusal .ensures, (rw (c .before .before .before .before .rule-of .ensures) at (called .ensures) ∙ unless-accepted 0 _ _ refl, worked-front 0 (length (now (a .passive))) (now (a .density)) (called .last .1 .1 .1 .1 .1 .1 .1 .1 .1 .0) refl (one-fits _ _ _ _ (c .before .before .before .before .before .before .refusal .ensures) (c .before .before .before .before .before .if1 .left)) (called .kept .1 .1 .1 .1 .1 .1 .1 .1 .1 .0)))
 
 pub sokdrib-kept-spec : {M : Type 1} → statement M
 sokdrib-kept-spec =

@@ -3,7 +3,8 @@ use lib.ListN.{length}
 use denote.Ref.{now}
 use mathlib.Core.Path.{refl, sym, _∙_}
 use lib.Seq.{length-take-le}
-use Rattle.capi.proofs.Fronts.{accepted, same-count, two-fit, unless-refused, unless-accepted, kept, written}
+use Rattle.lent.proofs.Lent.{unless-refused, unless-accepted}
+use Rattle.capi.proofs.Fronts.{accepted, same-count, two-fit, kept, written}
 use borrow.Author.Needs.{needs}
 use Rattle.capi.proofs.rounds.sokdrib_start.Statement.{statement}
 use Rattle.capi.proofs.rounds.sokdrib_start.Tie as tie

@@ -3,7 +3,8 @@ use lib.ListN.{length}
 use denote.Ref.{now}
 use mathlib.Core.Path.{refl, sym, _∙_}
 use lib.Seq.{length-take-le}
-use Rattle.capi.proofs.Fronts.{accepted, same-count, two-fit, kept, not-used, written, used}
+use Rattle.lent.proofs.Lent.{worked-same, worked-front}
+use Rattle.capi.proofs.Fronts.{accepted, same-count, two-fit, kept, written}
 use borrow.Author.Needs.{needs}
 use Rattle.capi.proofs.rounds.sokdrib_volume_slope.Statement.{statement}
 use Rattle.capi.proofs.rounds.sokdrib_volume_slope.Tie as tie
@@ -12,7 +13,7 @@ refusal-requires : tie.Need-refusal-requires
 refusal-requires c κs = search needs
 
 returns : tie.Need-returns
-returns c = (c .before .refusal .ensures, (kept _ _ _ (c .if1 .taken), not-used _ _ _ (c .if1 .taken)))
+returns c = (c .before .refusal .ensures, (kept _ _ _ (c .if1 .taken), worked-same _ _ _))
 
 slice-relend-prefix-volume-slope : tie.Need-slice-relend-prefix-volume-slope
 slice-relend-prefix-volume-slope c = two-fit _ _ _ _ _ (c .before .refusal .ensures) (c .if1 .left) .0
@@ -41,7 +42,7 @@ returns-2 c =
     let a = c .before .before .before .before .before .before .before .before .before .before .before .before .before .before .before .before .args in
     let z = c .before .before .before .before .before .before .before .if1 .left in
     let called = c .before .before .before .before .volume-slope in
-    (sym z ∙ c .before .before .before .before .before .before .before .before .refusal .ensures, (written 0 (length (now (a .slope))) _ (called .last .1 .1 .1 .1 .1 .1 .0) (now (a .out)) refl (two-fit _ _ _ _ _ (c .before .before .before .before .before .before .before .before .refusal .ensures) (c .before .before .before .before .before .before .before .if1 .left) .1) (called .kept .1 .1 .1 .1 .1 .1 .0) (called .ensures), used 0 (length (now (a .slope))) (called .last .1 .1 .1 .1 .1 .0) (now (a .by-density)) refl (two-fit _ _ _ _ _ (c .before .before .before .before .before .before .before .before .refusal .ensures) (c .before .before .before .before .before .before .before .if1 .left) .0) (called .kept .1 .1 .1 .1 .1 .0)))
+    (sym z ∙ c .before .before .before .before .before .before .before .before .refusal .ensures, (written 0 (length (now (a .slope))) _ (called .last .1 .1 .1 .1 .1 .1 .0) (now (a .out)) refl (two-fit _ _ _ _ _ (c .before .before .before .before .before .before .before .before .refusal .ensures) (c .before .before .before .before .before .before .before .if1 .left) .1) (called .kept .1 .1 .1 .1 .1 .1 .0) (called .ensures), worked-front 0 (length (now (a .slope))) (now (a .by-density)) (called .last .1 .1 .1 .1 .1 .0) refl (two-fit _ _ _ _ _ (c .before .before .before .before .before .before .before .before .refusal .ensures) (c .before .before .before .before .before .before .before .if1 .left) .0) (called .kept .1 .1 .1 .1 .1 .0)))
 
 pub sokdrib-volume-slope-spec : {M : Type 1} → statement M
 sokdrib-volume-slope-spec =

@@ -4,7 +4,8 @@ use denote.Ref.{now}
 use mathlib.Core.Path.{refl, sym, _∙_}
 use lib.Seq.{length-take-le}
 use Rattle.lists.proofs.Laws.{neither}
-use Rattle.capi.proofs.Fronts.{accepted, same-count, two-fit, kept, not-used, written, used}
+use Rattle.lent.proofs.Lent.{worked-same, worked-front}
+use Rattle.capi.proofs.Fronts.{accepted, same-count, two-fit, kept, written}
 use borrow.Author.Needs.{needs}
 use Rattle.capi.proofs.rounds.sokdrib_work_slope.Statement.{statement}
 use Rattle.capi.proofs.rounds.sokdrib_work_slope.Tie as tie
@@ -13,7 +14,7 @@ refusal-requires : tie.Need-refusal-requires
 refusal-requires c κs = search needs
 
 returns : tie.Need-returns
-returns c = (c .before .refusal .ensures, (kept _ _ _ (c .if1 .taken), not-used _ _ _ (c .if1 .taken)))
+returns c = (c .before .refusal .ensures, (kept _ _ _ (c .if1 .taken), worked-same _ _ _))
 
 slice-relend-prefix-work-slope : tie.Need-slice-relend-prefix-work-slope
 slice-relend-prefix-work-slope c = two-fit _ _ _ _ _ (c .before .refusal .ensures) (c .if1 .left) .0
@@ -44,7 +45,7 @@ returns-2 c =
     let a = c .before .before .before .before .before .before .before .before .before .before .before .before .before .before .before .before .before .before .args in
     let z = c .before .before .before .before .before .before .before .if1 .left in
     let called = c .before .before .before .before .work-slope in
-    (sym z ∙ c .before .before .before .before .before .before .before .before .refusal .ensures, (written 0 (length (now (a .passive))) _ (called .last .1 .1 .1 .1 .1 .1 .1 .1 .0) (now (a .out)) refl (two-fit _ _ _ _ _ (c .before .before .before .before .before .before .before .before .refusal .ensures) (c .before .before .before .before .before .before .before .if1 .left) .1) (called .kept .1 .1 .1 .1 .1 .1 .1 .1 .0) (called .ensures), used 0 (length (now (a .passive))) (called .last .1 .1 .1 .1 .1 .1 .1 .0) (now (a .by-density)) refl (two-fit _ _ _ _ _ (c .before .before .before .before .before .before .before .before .refusal .ensures) (c .before .before .before .before .before .before .before .if1 .left) .0) (called .kept .1 .1 .1 .1 .1 .1 .1 .0)))
+    (sym z ∙ c .before .before .before .before .before .before .before .before .refusal .ensures, (written 0 (length (now (a .passive))) _ (called .last .1 .1 .1 .1 .1 .1 .1 .1 .0) (now (a .out)) refl (two-fit _ _ _ _ _ (c .before .before .before .before .before .before .before .before .refusal .ensures) (c .before .before .before .before .before .before .before .if1 .left) .1) (called .kept .1 .1 .1 .1 .1 .1 .1 .1 .0) (called .ensures), worked-front 0 (length (now (a .passive))) (now (a .by-density)) (called .last .1 .1 .1 .1 .1 .1 .1 .0) refl (two-fit _ _ _ _ _ (c .before .before .before .before .before .before .before .before .refusal .ensures) (c .before .before .before .before .before .before .before .if1 .left) .0) (called .kept .1 .1 .1 .1 .1 .1 .1 .0)))
 
 pub sokdrib-work-slope-spec : {M : Type 1} → statement M
 sokdrib-work-slope-spec =

@@ -6,7 +6,8 @@ use lib.Seq.{length-take-le}
 use Rattle.lists.proofs.Laws.{neither}
 use Rattle.update_design.specs.Design.{gainsOf}
 use Rattle.c_update.specs.Numbers.{refusedWith}
-use Rattle.capi.proofs.Fronts.{accepted, same-count, three-fit, unless-refused, unless-accepted, kept, not-used, written, used}
+use Rattle.lent.proofs.Lent.{unless-refused, unless-accepted, worked-same, worked-front}
+use Rattle.capi.proofs.Fronts.{accepted, same-count, three-fit, kept, written}
 use Rattle.capi.proofs.Told.{told-is, told-zero}
 use borrow.Author.Needs.{needs}
 use Rattle.capi.proofs.updates.sokdrib_update.Statement.{statement}
@@ -17,7 +18,7 @@ refusal-requires c κs = search needs
 
 returns : tie.Need-returns
 unfolding refusedWith
-returns c = (c .before .refusal .ensures, (unless-refused _ _ _ (c .if1 .taken), (kept _ _ _ (c .if1 .taken), (not-used _ _ _ (c .if1 .taken), not-used _ _ _ (c .if1 .taken)))))
+returns c = (c .before .refusal .ensures, (unless-refused _ _ _ (c .if1 .taken), (kept _ _ _ (c .if1 .taken), (worked-same _ _ _, worked-same _ _ _))))
 
 rule-of-requires : tie.Need-rule-of-requires
 rule-of-requires c κs = search needs
@@ -69,7 +70,7 @@ returns-2 c =
     told-is
     (λ rule. record { x = now (a .x); gain = gainsOf (now (a .dc)) (now (a .dv)); dv = now (a .dv); passive = now (a .passive); move = a .m; target = a .target; tolerance = a .tolerance; rule = rule; starts = now (a .starts); near = now (a .near); coef = now (a .coef); volumes = now (a .volumes) })
     _ _ (c .before .before .before .before .before .before .before .before .before .before .before .rule-of .ensures) _ _ _ (called .ensures) (c .told .ensures) in
-    (zero-told ∙ sym z ∙ c .before .before .before .before .before .before .before .before .before .before .before .before .before .refusal .ensures, (is .0 ∙ unless-accepted _ _ _ zero-told, (written _ (length (now (a .x))) _ (called .last .1 .1 .1 .1 .1 .1 .1 .1 .1 .1 .1 .1 .0) (now (a .design)) zero-told (three-fit _ _ _ _ _ _ (c .before .before .before .before .before .before .before .before .before .before .before .before .before .refusal .ensures) (c .before .before .before .before .before .before .before .before .before .before .before .before .if1 .left) .0) (called .kept .1 .1 .1 .1 .1 .1 .1 .1 .1 .1 .1 .1 .0) (is .1), (used _ (length (now (a .x))) (called .last .1 .1 .1 .1 .1 .1 .1 .1 .1 .1 .1 .1 .1 .0) (now (a .gain)) zero-told (three-fit _ _ _ _ _ _ (c .before .before .before .before .before .before .before .before .before .before .before .before .before .refusal .ensures) (c .before .before .before .before .before .before .before .before .before .before .before .before .if1 .left) .1) (called .kept .1 .1 .1 .1 .1 .1 .1 .1 .1 .1 .1 .1 .1 .0), used _ (length (now (a .x))) (called .last .1 .1 .1 .1 .1 .1 .1 .1 .1 .1 .1 .1 .1 .1 .0) (now (a .work)) zero-told (three-fit _ _ _ _ _ _ (c .before .before .before .before .before .before .before .before .before .before .before .before .before .refusal .ensures) (c .before .before .before .before .before .before .before .before .before .before .before .before .if1 .left) .2) (called .kept .1 .1 .1 .1 .1 .1 .1 .1 .1 .1 .1 .1 .1 .1 .0)))))
+    (zero-told ∙ sym z ∙ c .before .before .before .before .before .before .before .before .before .before .before .before .before .refusal .ensures, (is .0 ∙ unless-accepted _ _ _ zero-told, (written _ (length (now (a .x))) _ (called .last .1 .1 .1 .1 .1 .1 .1 .1 .1 .1 .1 .1 .0) (now (a .design)) zero-told (three-fit _ _ _ _ _ _ (c .before .before .before .before .before .before .before .before .before .before .before .before .before .refusal .ensures) (c .before .before .before .before .before .before .before .before .before .before .before .before .if1 .left) .0) (called .kept .1 .1 .1 .1 .1 .1 .1 .1 .1 .1 .1 .1 .0) (is .1), (worked-front _ (length (now (a .x))) (now (a .gain)) (called .last .1 .1 .1 .1 .1 .1 .1 .1 .1 .1 .1 .1 .1 .0) zero-told (three-fit _ _ _ _ _ _ (c .before .before .before .before .before .before .before .before .before .before .before .before .before .refusal .ensures) (c .before .before .before .before .before .before .before .before .before .before .before .before .if1 .left) .1) (called .kept .1 .1 .1 .1 .1 .1 .1 .1 .1 .1 .1 .1 .1 .0), worked-front _ (length (now (a .x))) (now (a .work)) (called .last .1 .1 .1 .1 .1 .1 .1 .1 .1 .1 .1 .1 .1 .1 .0) zero-told (three-fit _ _ _ _ _ _ (c .before .before .before .before .before .before .before .before .before .before .before .before .before .refusal .ensures) (c .before .before .before .before .before .before .before .before .before .before .before .before .if1 .left) .2) (called .kept .1 .1 .1 .1 .1 .1 .1 .1 .1 .1 .1 .1 .1 .1 .0)))))
 
 pub sokdrib-update-spec : {M : Type 1} → statement M
 sokdrib-update-spec =

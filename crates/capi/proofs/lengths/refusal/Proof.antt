@@ -2,8 +2,8 @@
 use mathlib.Core.Path.{ap, _∙_}
 use Rattle.lists.specs.Lists.{choose}
 use borrow.Author.Needs.{needs}
-use Rattle.capi.proofs.lent.refusal.Statement.{statement}
-use Rattle.capi.proofs.lent.refusal.Tie as tie
+use Rattle.capi.proofs.lengths.refusal.Statement.{statement}
+use Rattle.capi.proofs.lengths.refusal.Tie as tie
 
 first-requires : tie.Need-first-requires
 first-requires c κs = search needs
