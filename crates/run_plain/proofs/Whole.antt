@@ -134,7 +134,7 @@ is-recorded l₀ r s l k a ph st tu sy w b p density m h d q lt hq hs f c =
     let x = densityIn s (lend k l) in
     let e = recordIn s a (lend k l) in
     let nd : Renewed (s .setting .elements) (k .design) u u′ (l .design) =
-    renewed (s .setting .elements) (k .design) u u′ (l .design) (ap (λ (v : Stand). v .design) (o .update)) (length-update _ _ _ _ _ ∙ d .long) (h .room .design) in
+    renewed (s .setting .elements) (k .design) u u′ (l .design) (ap (λ (v : Search). v .design) (o .update)) (length-update _ _ _ _ _ ∙ d .long) (h .room .design) in
     let nl : Renewed (s .setting .elements) (k .last) x (askedOf r) (l .last) = last-renewed r s l k h q in
     let hh : s .setting .«max_iterations» ≤ length (take (k .history) (l .history)) = h .room .history in
     let nh : Added (s .progress .rounds) (k .history) e (l .history) = added (s .progress .rounds) (k .history) e (l .history) (omega arith) in

@@ -198,7 +198,7 @@ firstAsked s a l =
     }
 
 -- the update and the record of a round
-abbrev pub updateIn : State → Arguments → Lists → Stand
+abbrev pub updateIn : State → Arguments → Lists → Search
 updateIn s a l = updateAt (caseFrom s l) (steepAt (s .progress .stage)) (designIn s l) (densityIn s l) (a .energies)
 
 abbrev pub recordIn : State → Arguments → Lists → Iteration
