@@ -66,7 +66,10 @@ pub extern "C" fn sokdrib_start(
     ensures { λ r. ⌜ (now (design .exit) ≡ leftBy (r .refused) (startDesign (now (passive .entry)) (r .density)) (now (design .entry))) × (now (free .exit) ≡ leftBy (r .refused) (freeVolumes (now (volumes .entry)) (now (passive .entry))) (now (free .entry))) ⌝ }
 {
     let n = volumes.len();
-    let refused = crate::lengths::refusal(passive.len() != n, (design.len() < n) | (free.len() < n));
+    let refused = crate::lengths::refusal(
+        passive.len() != n,
+        (design.len() < n) | (free.len() < n),
+    );
     if refused != 0 {
         return Start {
             refused,
@@ -210,7 +213,10 @@ pub extern "C" fn sokdrib_volume_slope(
     ensures { λ r. ⌜ WorkedBy r (length (now (slope .entry))) (now («by_density» .entry)) (now («by_density» .exit)) ⌝ }
 {
     let n = slope.len();
-    let refused = crate::lengths::refusal(free.len() != n, (by_density.len() < n) | (out.len() < n));
+    let refused = crate::lengths::refusal(
+        free.len() != n,
+        (by_density.len() < n) | (out.len() < n),
+    );
     if refused != 0 {
         return refused;
     }
