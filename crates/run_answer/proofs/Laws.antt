@@ -33,7 +33,7 @@ use Rattle.run_plain.specs.Calls.{endedOf, Core, Arguments, listsOf, sizesIn, s
 use Rattle.run_plain.proofs.Parts.{take-overlay, enough as enough-lists}
 use Rattle.run_plain.proofs.Formulas.{length-update}
 use Rattle.run_plain.proofs.Verdicts.{SaneIf}
-use Rattle.run_verdict.proofs.Verdict.{sane}
+use Rattle.run_verdict.proofs.Judged.{sane}
 use Rattle.run_answer.specs.declared.Step.{Step}
 use Rattle.run_answer.specs.Answers.{Work, lengthsOf, verdictIn, Scratched, worked, CoreAnswered}
 use Rattle.run_answer.specs.Steps.{Asks, Enough, questionAt, entryIn, designIn, Solved, Begun, Followed}

@@ -3,7 +3,7 @@ mod fronts;
 
 ghost use mathlib.Core.Path.{_≡_};
 ghost use lib.ListN.{set};
-ghost use Rattle.run_verdict.specs.Fit.{Fit};
+ghost use Rattle.run_course.specs.Fit.{Fit};
 ghost use Rattle.run_answer.specs.Answers.{CoreAnswered};
 ghost use Rattle.run_answer.specs.Steps.{Asks, Enough, Begun, Followed};
 use run_plain::Course;
@@ -74,7 +74,7 @@ fn begins(
         density,
         slope,
     );
-    let s = run_verdict::counts::first_state(state, oc_record::compliance(energies));
+    let s = run_course::first_state(state, oc_record::compliance(energies));
     unrecorded(room, s, Reply::Round(1))
 }
 
@@ -125,12 +125,12 @@ fn solves(
         dc,
         dv,
     );
-    let c = run_verdict::counts::course(state, heard, entry);
+    let c = run_course::course(state, heard, entry);
     match c {
         Course::Ends(why) => {
             return Step {
                 returned: Returned {
-                    state: run_verdict::counts::recorded_state(state, entry),
+                    state: run_course::recorded_state(state, entry),
                     reply: Reply::Stop(why),
                 },
                 at: state.progress.rounds,
@@ -138,7 +138,7 @@ fn solves(
             };
         }
         Course::Onward => {
-            let s = run_verdict::counts::onward_state(state, entry);
+            let s = run_course::onward_state(state, entry);
             fronts::ask(
                 state,
                 s.progress.stage,
@@ -153,7 +153,7 @@ fn solves(
             return Step {
                 returned: Returned {
                     state: s,
-                    reply: Reply::Round(run_verdict::counts::next_round(state)),
+                    reply: Reply::Round(run_course::next_round(state)),
                 },
                 at: state.progress.rounds,
                 entry,
@@ -189,7 +189,7 @@ pub fn answer_core(
         (record { volumes = now (volumes .entry); passive = now (passive .entry); starts = now (starts .entry); near = now (near .entry); coef = now (coef .entry); design = now (design .exit); density = now (density .exit); last = now (last .exit) })
         (record { free = now (free .exit); slope = now (slope .exit); spare = now (spare .exit); dc = now (dc .exit); dv = now (dv .exit) }) ⌝ }
 {
-    let v = run_verdict::answers::verdict(
+    let v = run_verdict::verdict(
         state,
         heard,
         energies,

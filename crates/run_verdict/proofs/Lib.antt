@@ -1,3 +1,2 @@
--- `After`: the counts and the state after a round. `Verdict`: the verdict from the state's phase, and what it says of the state.
-pub mod After
-pub mod Verdict
+-- `Judged`: what an answer comes to, and what that says of the state.
+pub mod Judged

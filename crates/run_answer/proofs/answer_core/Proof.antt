@@ -3,7 +3,7 @@ use mathlib.Core.Path.{refl}
 use denote.Ref.{now}
 use borrow.Author.Needs.{needs}
 use Rattle.run_plain.specs.Calls.{Core, Arguments, sizesIn}
-use Rattle.run_verdict.proofs.Verdict.{solves-fit}
+use Rattle.run_verdict.proofs.Judged.{solves-fit}
 use Rattle.run_answer.specs.Answers.{Work, lengthsOf}
 use Rattle.run_answer.proofs.Laws.{kept-law, over-law, halts-law, begins-enough, solves-enough, asks-from, begins-law, solves-law}
 use Rattle.run_answer.proofs.answer_core.Statement.{statement}

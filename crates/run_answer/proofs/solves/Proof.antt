@@ -4,7 +4,7 @@ use native.Mathlib.Omega.{arith}
 use denote.Ref.{now}
 use borrow.Author.Needs.{needs}
 use Rattle.run_plain.specs.Calls.{Core, Arguments}
-use Rattle.run_verdict.proofs.After.{goes-fit}
+use Rattle.run_course.proofs.After.{goes-fit}
 use Rattle.run_answer.specs.Answers.{Work}
 use Rattle.run_answer.proofs.Laws.{asks-from, asks-later, stop-law, onward-law}
 use Rattle.run_answer.proofs.solves.Statement.{statement}
