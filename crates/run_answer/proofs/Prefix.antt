@@ -15,10 +15,10 @@ module _ {A : Type 0} where
   pub front : (n : ℕ) (l : List A) → n ≤ length l → n ≡ length (take n l)
   front n l h = sym (length-take-le n l h)
 
-  -- a part of n places, laid over
-  pub laid : (n : ℕ) (ys new l : List A) → ys ≡ new → length ys ≡ n → ys ++ drop n l ≡ overlay new l
+  -- what comes back for them, laid over
+  pub laid : (n : ℕ) (ys new l : List A) → ys ≡ new → length ys ≡ length (take n l) → n ≤ length l → ys ++ drop n l ≡ overlay new l
   unfolding overlay
-  laid n ys new l e h = (λ i. e i ++ drop ((sym h ∙ ap length e) i) l)
+  laid n ys new l e h b = (λ i. e i ++ drop ((front n l b ∙ sym h ∙ ap length e) i) l)
 
   drop-front : (ys l : List A) → drop (length ys) (ys ++ l) ≡ l
   drop-front [] l = refl
@@ -27,8 +27,14 @@ module _ {A : Type 0} where
   pub drop-laid : (n : ℕ) (ys l : List A) → length ys ≡ n → drop n (ys ++ drop n l) ≡ drop n l
   drop-laid n ys l h = (λ i. drop (sym h i) (ys ++ drop n l)) ∙ drop-front ys (drop n l)
 
-pub scratched : (n : ℕ) (ys l : List Float) → length ys ≡ n → n ≤ length l → Scratched n l (ys ++ drop n l)
-scratched n ys l h b = record { long = length-append ys (drop n l) ∙ (λ i. h i + length-drop n l i) ∙ omega arith; rest = drop-laid n ys l h }
+-- of two lists as many places
+pub as-long : {A B : Type 0} (n : ℕ) (l : List A) (m : List B) → n ≤ length l → n ≤ length m → length (take n l) ≡ length (take n m)
+as-long n l m h k = sym (front n l h) ∙ front n m k
+
+pub scratched : (n : ℕ) (ys l : List Float) → length ys ≡ length (take n l) → n ≤ length l → Scratched n l (ys ++ drop n l)
+scratched n ys l h b =
+    let e : length ys ≡ n = h ∙ sym (front n l b) in
+    record { long = length-append ys (drop n l) ∙ (λ i. e i + length-drop n l i) ∙ omega arith; rest = drop-laid n ys l e }
 
 -- one place more, as the code counts it
 pub take-one : {A : Type 0} (n : ℕ) (l : List A) → take (n + 1) l ≡ take (suc n) l
