@@ -10,6 +10,17 @@ use borrow.Author.Needs.{needs}
 use Rattle.run_round.proofs.ask.Statement.{statement}
 use Rattle.run_round.proofs.ask.Tie as tie
 
+-- ---- places, from the last back: the densities were left; the sharpness was chosen; the entry
+abbrev at-see : tie.After-slice-known4 → tie.After-see
+at-see c = c .before .before .before .before
+
+abbrev at-seen : tie.After-see → tie.After-seen-at
+at-seen c = c .before .before .before
+
+abbrev at-start : tie.After-seen-at → tie.Start
+at-start c = c .before .before .before .before .before .before .before .before .before
+
+-- ---- the needs
 sharpness-requires : tie.Need-sharpness-requires
 sharpness-requires c κs = search needs
 
@@ -26,9 +37,13 @@ same-length-2 : tie.Need-same-length-2
 same-length-2 c = search needs
 
 returns : tie.Need-returns
-returns c = let a = c .before .before .before .before .before .before .before .before .before .before .before .before .before .before .before .before .args in
-    c .before .before .before .before .see .ensures .0
-    ∙ ap (λ (s : Sharpness). seenDensity s (now (a .starts)) (now (a .near)) (now (a .coef)) (now (a .passive)) (now (a .design))) (c .before .before .before .before .before .before .before .seen-at .ensures ∙ ap (λ (b : Float). choose (a .sharpen) (At b) Off) (c .before .before .before .before .before .before .before .before .sharpness .ensures))
+returns c =
+    let see : tie.After-see = at-see c in
+    let seen : tie.After-seen-at = at-seen see in
+    let a = at-start seen .args in
+    see .see .ensures .0
+    ∙ ap (λ (s : Sharpness). seenDensity s (now (a .starts)) (now (a .near)) (now (a .coef)) (now (a .passive)) (now (a .design)))
+    (seen .seen-at .ensures ∙ ap (λ (b : Float). choose (a .sharpen) (At b) Off) (seen .before .sharpness .ensures))
 
 pub ask-spec : {M : Type 1} → statement M
 ask-spec =

@@ -5,6 +5,20 @@ use borrow.Author.Needs.{needs}
 use Rattle.run_round.proofs.volume_slopes.Statement.{statement}
 use Rattle.run_round.proofs.volume_slopes.Tie as tie
 
+-- ---- places, from the last back: each arm's call, its test
+abbrev at-volume : tie.After-slice-known4 → tie.After-volume-slope
+at-volume c = c .before .before .before .before
+
+abbrev sharpened : tie.After-volume-slope → tie.Then1
+sharpened c = c .before .before .before
+
+abbrev at-straight : tie.After-slice-known5 → tie.After-straight-slope
+at-straight c = c .before .before
+
+abbrev unsharpened : tie.After-straight-slope → tie.Else1
+unsharpened c = c .before .before
+
+-- ---- the needs
 volume-slope-requires : tie.Need-volume-slope-requires
 volume-slope-requires c κs = search needs
 
@@ -18,13 +32,13 @@ same-length-2 : tie.Need-same-length-2
 same-length-2 c = search needs
 
 returns : tie.Need-returns
-returns c = c .before .before .before .before .volume-slope .ensures ∙ sym (choose-true _ _ _ (c .before .before .before .before .before .before .before .if1 .taken))
+returns c = at-volume c .volume-slope .ensures ∙ sym (choose-true _ _ _ (sharpened (at-volume c) .if1 .taken))
 
 same-length-3 : tie.Need-same-length-3
 same-length-3 c = search needs
 
 returns-2 : tie.Need-returns-2
-returns-2 c = c .before .before .straight-slope .ensures ∙ sym (choose-false _ _ _ (c .before .before .before .before .if1 .left))
+returns-2 c = at-straight c .straight-slope .ensures ∙ sym (choose-false _ _ _ (unsharpened (at-straight c) .if1 .left))
 
 pub volume-slopes-spec : {M : Type 1} → statement M
 volume-slopes-spec =

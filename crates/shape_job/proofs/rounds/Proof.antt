@@ -1,7 +1,10 @@
 -- `rounds` meets its contract. The invariant: the answers that are left give what all give. Assumes nothing.
 use mathlib.Core.Path.{_≡_, refl, sym, _∙_}
+use mathlib.Core.List.{List}
 use native.Mathlib.Omega.{arith}
 use lib.ListN.{length}
+use lib.Ieee.{Float}
+use Rattle.run_plain.specs.Calls.{Core}
 use Rattle.run_answer.specs.Answers.{Work, lengthsOf}
 use Rattle.shape_job.specs.Job.{answersFrom, resultIn}
 use Rattle.shape_job.proofs.Answers.{answers-none, answers-over, answers-more, Long, same-lengths}
@@ -18,6 +21,23 @@ Inv-loop k weights volumes passive starts near coef design₀ density₀ last₀
 abbrev μ-loop : tie.MeasureT-loop
 μ-loop k weights volumes passive starts near coef design₀ density₀ last₀ energies₀ free₀ slope₀ spare₀ dc₀ dv₀ t₀ left₀ design density last energies free slope spare dc dv t left = left
 
+-- ---- places, from the last back: the turn was made; a part was asked for; an answer was left; the entry. And where no part was asked for
+abbrev at-turn : tie.After-slice-known18 Inv-loop μ-loop → tie.After-turn Inv-loop μ-loop
+at-turn c = c .before .before .before .before .before .before .before .before .before .before .before .before .before .before .before .before .before .before
+
+abbrev asked : tie.After-turn Inv-loop μ-loop → tie.Then1 Inv-loop μ-loop
+asked c = c .before .before .before .before .before .before .before .before .before .before
+
+abbrev in-loop : tie.Then1 Inv-loop μ-loop → tie.In-loop Inv-loop μ-loop
+in-loop c = c .before .before .before
+
+abbrev at-start : tie.At-loop Inv-loop μ-loop → tie.Start Inv-loop μ-loop
+at-start c = c .before .before .before .before .before .before .before .before .before .before .before .before .before .before .before .before
+
+abbrev not-asked : tie.Else1 Inv-loop μ-loop → tie.At-loop Inv-loop μ-loop
+not-asked c = c .before .before .before .before
+
+-- ---- the needs
 loop-holds : tie.Need-loop-holds Inv-loop μ-loop
 loop-holds c =
     (refl, refl, refl, refl, record { free = refl; slope = refl; spare = refl; dc = refl; dv = refl }, refl)
@@ -29,63 +49,83 @@ turn-requires : tie.Need-turn-requires Inv-loop μ-loop
 turn-requires c κs = tt
 
 sub-left : tie.Need-sub-left Inv-loop μ-loop
-sub-left c = c .before .before .before .before .before .before .before .before .before .before .before .before .before .before .before .before .before .before .before .before .before .before .before .before .before .before .before .before .before .before .before .loop-test .taken
+sub-left c = in-loop (asked (at-turn c)) .loop-test .taken
 
 loop-less : tie.Need-loop-less Inv-loop μ-loop
 loop-less c =
-    let h = c .before .before .before .before .before .before .before .before .before .before .before .before .before .before .before .before .before .before .before .before .before .before .before .before .before .before .before .before .before .before .before .loop-test .taken in
+    let h = in-loop (asked (at-turn c)) .loop-test .taken in
     omega arith
 
 loop-again : tie.Need-loop-again Inv-loop μ-loop
 loop-again c =
-    let a = c .before .before .before .before .before .before .before .before .before .before .before .before .before .before .before .before .before .before .before .before .before .before .before .before .before .before .before .before .before .before .before .before .before .before .before .before .before .before .before .before .before .before .before .before .before .before .before .before .args in
-    let x = c .before .before .before .before .before .before .before .before .before .before .before .before .before .before .before .before .before .before .before .before .before .before .before .before .before .before .before .before .before .before .before .before .loop in
-    let kept = c .before .before .before .before .before .before .before .before .before .before .before .before .before .before .before .before .before .before .turn .kept in
-    let last = c .before .before .before .before .before .before .before .before .before .before .before .before .before .before .before .before .before .before .turn .last in
+    let turn : tie.After-turn Inv-loop μ-loop = at-turn c in
+    let asks : tie.Then1 Inv-loop μ-loop = asked turn in
+    let inside : tie.In-loop Inv-loop μ-loop = in-loop asks in
+    let x = inside .before .loop in
+    let a = at-start (inside .before) .args in
+    let kept = turn .turn .kept .1 .1 .1 .1 .1 .1 .1 in
+    let last = turn .turn .last .1 .1 .1 .1 .1 .1 .1 in
     let long = x .inv .4 in
+    let lent : List Float → List Float → List Float → Core =
+    λ design density last. record {
+      volumes = a .volumes .now;
+      passive = a .passive .now;
+      starts = a .starts .now;
+      near = a .near .now;
+      coef = a .coef .now;
+      design = design;
+      density = density;
+      last = last;
+    } in
     let w : Work = record { free = x .free; slope = x .slope; spare = x .spare; dc = x .dc; dv = x .dv } in
     let w₀ : Work = record { free = a .free .now; slope = a .slope .now; spare = a .spare .now; dc = a .dc .now; dv = a .dv .now } in (
-      kept .1 .1 .1 .1 .1 .1 .1 .0 ∙ x .inv .0,
-      kept .1 .1 .1 .1 .1 .1 .1 .1 .0 ∙ x .inv .1,
-      kept .1 .1 .1 .1 .1 .1 .1 .1 .1 .0 ∙ x .inv .2,
-      kept .1 .1 .1 .1 .1 .1 .1 .1 .1 .1 .0 ∙ x .inv .3,
-      record { free = kept .1 .1 .1 .1 .1 .1 .1 .1 .1 .1 .1 .0 ∙ long .free; slope = kept .1 .1 .1 .1 .1 .1 .1 .1 .1 .1 .1 .1 .0 ∙ long .slope; spare = kept .1 .1 .1 .1 .1 .1 .1 .1 .1 .1 .1 .1 .1 .0 ∙ long .spare; dc = kept .1 .1 .1 .1 .1 .1 .1 .1 .1 .1 .1 .1 .1 .1 .0 ∙ long .dc; dv = kept .1 .1 .1 .1 .1 .1 .1 .1 .1 .1 .1 .1 .1 .1 .1 .0 ∙ long .dv },
+      kept .0 ∙ x .inv .0,
+      kept .1 .0 ∙ x .inv .1,
+      kept .1 .1 .0 ∙ x .inv .2,
+      kept .1 .1 .1 .0 ∙ x .inv .3,
+      record {
+        free = kept .1 .1 .1 .1 .0 ∙ long .free;
+        slope = kept .1 .1 .1 .1 .1 .0 ∙ long .slope;
+        spare = kept .1 .1 .1 .1 .1 .1 .0 ∙ long .spare;
+        dc = kept .1 .1 .1 .1 .1 .1 .1 .0 ∙ long .dc;
+        dv = kept .1 .1 .1 .1 .1 .1 .1 .1 .0 ∙ long .dv;
+      },
       answers-more (a .weights .now) (length (x .energies)) (length (a .energies .now)) (lengthsOf w) (lengthsOf w₀) (x .left)
-          (resultIn (x .t) (record { volumes = a .volumes .now; passive = a .passive .now; starts = a .starts .now; near = a .near .now; coef = a .coef .now; design = x .design; density = x .density; last = x .last }))
-          (resultIn (c .before .before .before .before .before .before .before .before .before .before .before .before .before .before .before .before .before .before .turn .result) (record { volumes = a .volumes .now; passive = a .passive .now; starts = a .starts .now; near = a .near .now; coef = a .coef .now; design = last .1 .1 .1 .1 .1 .1 .1 .0; density = last .1 .1 .1 .1 .1 .1 .1 .1 .0; last = last .1 .1 .1 .1 .1 .1 .1 .1 .1 .0 }))
-          (x .inv .3) (same-lengths w w₀ long) (sym (c .before .before .before .before .before .before .before .before .before .before .before .before .before .before .before .before .before .before .before .before .before .before .before .before .before .before .before .before .before .asks .ensures) ∙ c .before .before .before .before .before .before .before .before .before .before .before .before .before .before .before .before .before .before .before .before .before .before .before .before .before .before .before .before .if1 .taken) (c .before .before .before .before .before .before .before .before .before .before .before .before .before .before .before .before .before .before .before .before .before .before .before .before .before .before .before .before .before .before .before .loop-test .taken) (c .before .before .before .before .before .before .before .before .before .before .before .before .before .before .before .before .before .before .turn .ensures)
+          (resultIn (x .t) (lent (x .design) (x .density) (x .last)))
+          (resultIn (turn .turn .result) (lent (last .0) (last .1 .0) (last .1 .1 .0)))
+          (x .inv .3) (same-lengths w w₀ long) (sym (asks .before .asks .ensures) ∙ asks .if1 .taken) (inside .loop-test .taken) (turn .turn .ensures)
           ∙ x .inv .5,
     )
 
 same-length : tie.Need-same-length Inv-loop μ-loop
-same-length c = c .before .before .before .before .loop .inv .0
+same-length c = not-asked c .loop .inv .0
 
 same-length-2 : tie.Need-same-length-2 Inv-loop μ-loop
-same-length-2 c = c .before .before .before .before .loop .inv .1
+same-length-2 c = not-asked c .loop .inv .1
 
 same-length-3 : tie.Need-same-length-3 Inv-loop μ-loop
-same-length-3 c = c .before .before .before .before .loop .inv .2
+same-length-3 c = not-asked c .loop .inv .2
 
 same-length-4 : tie.Need-same-length-4 Inv-loop μ-loop
-same-length-4 c = c .before .before .before .before .loop .inv .3
+same-length-4 c = not-asked c .loop .inv .3
 
 same-length-5 : tie.Need-same-length-5 Inv-loop μ-loop
-same-length-5 c = c .before .before .before .before .loop .inv .4 .free
+same-length-5 c = not-asked c .loop .inv .4 .free
 
 same-length-6 : tie.Need-same-length-6 Inv-loop μ-loop
-same-length-6 c = c .before .before .before .before .loop .inv .4 .slope
+same-length-6 c = not-asked c .loop .inv .4 .slope
 
 same-length-7 : tie.Need-same-length-7 Inv-loop μ-loop
-same-length-7 c = c .before .before .before .before .loop .inv .4 .spare
+same-length-7 c = not-asked c .loop .inv .4 .spare
 
 same-length-8 : tie.Need-same-length-8 Inv-loop μ-loop
-same-length-8 c = c .before .before .before .before .loop .inv .4 .dc
+same-length-8 c = not-asked c .loop .inv .4 .dc
 
 same-length-9 : tie.Need-same-length-9 Inv-loop μ-loop
-same-length-9 c = c .before .before .before .before .loop .inv .4 .dv
+same-length-9 c = not-asked c .loop .inv .4 .dv
 
 returns : tie.Need-returns Inv-loop μ-loop
-returns c = answers-over _ _ _ _ _ (sym (c .before .asks .ensures) ∙ c .if1 .left) ∙ c .before .before .before .before .loop .inv .5
+returns c = answers-over _ _ _ _ _ (sym (c .before .asks .ensures) ∙ c .if1 .left) ∙ not-asked c .loop .inv .5
 
 same-length-10 : tie.Need-same-length-10 Inv-loop μ-loop
 same-length-10 c = c .before .loop .inv .0
