@@ -1,5 +1,6 @@
 #!/usr/bin/env python3
-"""Holds docs/CLAIMS.md, and the names in the other documents, to the sources and to docs/01-scope.md.
+"""Holds docs/CLAIMS.md, and the names in the other documents, to the sources, to docs/01-scope.md and, of the requests
+that have landed (LANDED in tools/sources.py), to docs/02-change-requests.md: below, 01 is both.
 
     tools/claims.py            checks, and that docs/SENTENCES.md is current
     tools/claims.py --write    writes docs/SENTENCES.md
@@ -38,8 +39,7 @@ WORDS = {
 # Sentences of 01, by their beginnings, of which nothing is claimed, and why.
 NO_CLAIM = {
     "We read the code": "says what its readers do",
-    "A line marked (02)": "of a later request",
-    '"Keep the moduli of all 1,001 levels': "of a later request: marked (02)",
+    "A line marked (02)": "says when the form comes",
     "Although the proofs for these places": "leads to the entry below it",
 }
 
@@ -136,8 +136,8 @@ def edits():
 
 def index(scope, tried):
     """docs/SENTENCES.md."""
-    lines = ["# Sentences: what says each sentence of document 01", "",
-             "Written by `tools/claims.py --write`, from docs/01-scope.md and what quotes it: the rows of",
+    lines = ["# Sentences: what says each sentence of document 01 and of the requests that have landed", "",
+             "Written by `tools/claims.py --write`, from docs/01-scope.md, docs/02-change-requests.md and what quotes them: the rows of",
              "docs/CLAIMS.md, the comments in crates/*/specs, and the first lines of the edits. A definition is what a",
              "contract cites, code the function whose contract it is, a theorem what is proved of them; an edit,",
              "CRATE/LABEL, breaks the sentence and is refused (crates/CRATE/must-fail/LABEL.edit)."]
@@ -163,6 +163,7 @@ def index(scope, tried):
 def main():
     scope, spec, tried = Scope(), Scope(), Scope()
     whole, claims = (" ".join(tokens(read(f"docs/{name}.md"))) for name in ("01-scope", "CLAIMS"))
+    whole += " ".join(tokens(read("docs/02-change-requests.md")))
     labels, lines, faults = edits()
     for label, line in lines.items():
         says = [quoted(line[2:]), *(parts for _, parts in quotes(line)), quoted(line.partition(": ")[2])]
@@ -190,7 +191,7 @@ def main():
             scope.note(parts, tuple(sorted(where)) or cells[1])
             said |= {d for i in scope.find(parts) for d in spec.by[i] if not short(parts)}
             if "demand" not in cells[0] and not scope.find(parts) and " ".join(tokens(quote)) not in whole:
-                wrong.append(f'"{quote}" is not in docs/01-scope.md')
+                wrong.append(f'"{quote}" is not in docs/01-scope.md or docs/02-change-requests.md')
         if said and not said & where:
             at = ", ".join(f"`{name}` ({file})" for file, name in sorted(said))
             wrong.append(f"its sentence is quoted at {at}, none of which it names")
@@ -198,10 +199,10 @@ def main():
     faults += [f"docs/CLAIMS.md does not name the edit {label} of {labels[label]}" for label in lines]
     for _, parts in quotes(read("docs/DECISIONS.md")):
         scope.note(parts, "docs/DECISIONS.md")
-    for _, sentence, start, end in scope.spans:
+    for heading, sentence, start, end in scope.spans:
         bare = [scope.words[i] for i in range(start, end) if not scope.by[i] and scope.words[i] not in SIGNS]
         if bare and not any(sentence.startswith(begins) for begins in NO_CLAIM):
-            faults.append(f"docs/01-scope.md, {sentence}: quoted nowhere: {' '.join(bare)}")
+            faults.append(f"{heading}, {sentence}: quoted nowhere: {' '.join(bare)}")
     for doc in OTHERS:
         for text in map(" | ".join, blocks(read(doc))):
             faults += [f"{doc}, {text[:70]}..: {w}" for w in told(text, False)[1]]

@@ -200,7 +200,8 @@ def c_comment(lines):
 
 
 def refusals():
-    """The section "Refusals" of docs/API.md as the lines of a comment: its table has the numbers 0 to 22, each once."""
+    """The section "Refusals" of docs/API.md as the lines of a comment: its table has 01's numbers, 0 to 22, and then those of
+    the requests that have landed, each once and rising."""
     plain = REFUSALS.read_text(encoding="utf-8").translate({ord("`"): "", ord("·"): "*", ord("−"): "-", ord("≥"): ">="})
     section = re.search(r"^## Refusals\n\n(.*?)^## ", plain, re.S | re.M)
     if not section:
@@ -214,8 +215,8 @@ def refusals():
             numbers.append(int(cells[0]))
             number, why, left, by = cells
             out += textwrap.wrap(f"{why}. Left: {left}. By: {by}.", 116, initial_indent=f"{number:>4}  ", subsequent_indent=" " * 6)
-    if numbers != list(range(23)):
-        fail("the table of refusals in docs/API.md has not the numbers 0 to 22, each once and in order")
+    if numbers[:23] != list(range(23)) or numbers != sorted(set(numbers)):
+        fail("the table of refusals in docs/API.md has not the numbers 0 to 22 and those of requests, each once and rising")
     return ["/* " + "\n".join([out[0]] + [f" * {line}".rstrip() for line in out[1:]]) + " */"]
 
 

@@ -69,8 +69,13 @@ def place(path):
 
 # ---- sentences and quotes
 
+# The requests of document 02 that have landed.
+LANDED = {11}
+
+
 def sentences():
-    """01's sentences, as (heading, sentence). A row of its table is one, and its code; a file's bold name is none."""
+    """01's sentences, as (heading, sentence), and those of the requests that have landed. A row of 01's table is one, and
+    its code; a bold name is none."""
     heading, code = "", None
     for line in read("docs/01-scope.md").splitlines():
         if line.startswith("```"):
@@ -86,6 +91,9 @@ def sentences():
         elif line and not line.startswith("|"):
             for sentence in re.split(r"(?<=[^.]\.)\s+", re.sub(r"^\*\*.*?\*\* |^- ", "", line)):
                 yield heading, sentence
+    for number, title, text in re.findall(r"^\*\*CR (\d+)\. (.*?)\.\*\* (.*)$", read("docs/02-change-requests.md"), re.M):
+        for sentence in re.split(r"(?<=[^.]\.)\s+", text) if int(number) in LANDED else []:
+            yield f"CR {number}. {title}", sentence
 
 
 SIGNS = set(".,:;()[]")

@@ -19,7 +19,7 @@ use std::hint::black_box;
 use std::process::ExitCode;
 use std::time::Instant;
 
-use sokdrib::{faces, geom, ieee};
+use sokdrib::{faces, geom, ieee, topo};
 use tenon::stand_ins;
 
 /// How many inputs a list has: all of them fit the nearest cache.
@@ -119,6 +119,15 @@ fn all(repetitions: usize) {
     let zs: Vec<f64> = random.list::<1>(-8.0, 8.0).into_iter().flatten().collect();
     line("tanh, list", repetitions, |out| ieee::tanh_each(black_box(&zs), out), each(&zs, stand_ins::tanh));
     line("tanh, calls", repetitions, each(&zs, ieee::tanh), each(&zs, tanh));
+
+    // the Rust has no way back from a stiffness: beside it stands a search of its moduli by the standard library
+    let moduli: Vec<f64> = (0..=1000).map(|level| tenon::topo::modulus(level, 1.0)).collect();
+    let stiffnesses: Vec<f64> = random.list::<1>(1e-9, 1.0).into_iter().flatten().collect();
+    let searched = |x: f64| moduli.partition_point(|m| *m <= x) as f64;
+    line("level_below, calls", repetitions, each(&stiffnesses, |x| topo::level_below(x).map_or(29.0, f64::from)), each(&stiffnesses, searched));
+    let known: Vec<f64> = stiffnesses.iter().map(|x| moduli[(x * 1000.0) as usize]).collect();
+    let found = |m: f64| moduli.binary_search_by(|entry| entry.total_cmp(&m)).map_or(29.0, |level| level as f64);
+    line("level_with, calls", repetitions, each(&known, |m| topo::level_with(m).map_or(29.0, f64::from)), each(&known, found));
 
     let points = random.list::<3>(-2.0, 2.0);
     let corners = random.list::<9>(-1.0, 1.0);

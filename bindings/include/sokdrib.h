@@ -48,11 +48,13 @@
  *   21  a boundary triangle names a node that is not there. Left: kept. By: passive, asymmetry.
  *   22  the job strip is malformed. Left: kept. By: the calls of strip_stream and strip_read, program shape: none of
  *       C's.
+ *   29  level_with: no level's modulus is the one given; level_below: a number below the lowest modulus or above the
+ *       highest, or not a number. Left: kept: nothing is lent. By: level_with, level_below.
  *
  * Where several apply, the first of these is given. open: 20, 1 to 12, 14; row by row 13, 14; last 15. filter_build: the
  * same without 20, 5, 6, 7 and 15. answer: 20, 14; 15 or 18 as the solver said; 16, 17, 19, last 15. Mesh calls (design,
  * block, passive, asymmetry, off_centre): those that they have of 3, 21, 9, 11, 8, 14. Parts of a round (start, see,
- * work_slope, volume_slope, kept, update): 1, 14. A strip: 22, 14. Every other call is a leaf or works with whatever it
+ * work_slope, volume_slope, kept, update): 1, 14. A strip: 22, 14. The way back from a stiffness: 29. Every other call is a leaf or works with whatever it
  * is given, and refuses nothing. */
 #ifndef SOKDRIB_H
 #define SOKDRIB_H
@@ -75,6 +77,11 @@ typedef struct {
     SokdribVec3 point;
     SokdribVec3 normal;
 } SokdribMirror;
+
+typedef struct {
+    uint32_t refused;
+    uint16_t level;
+} SokdribLevelNumbers;
 
 typedef struct {
     uint32_t refused;
@@ -176,6 +183,7 @@ typedef struct {
 #if !defined(__cplusplus) && __STDC_VERSION__ >= 201112L
 _Static_assert(sizeof(SokdribVec3) == 24, "SokdribVec3");
 _Static_assert(sizeof(SokdribMirror) == 48, "SokdribMirror");
+_Static_assert(sizeof(SokdribLevelNumbers) == 8, "SokdribLevelNumbers");
 _Static_assert(sizeof(SokdribMade) == 16, "SokdribMade");
 _Static_assert(sizeof(SokdribAsymmetry) == 16, "SokdribAsymmetry");
 _Static_assert(sizeof(SokdribOffCentre) == 24, "SokdribOffCentre");
@@ -352,6 +360,12 @@ void sokdrib_back(
     double *out,
     size_t out_len
 );
+
+/* The level whose modulus for material 1 is `modulus`; 29 where no level has it. */
+SokdribLevelNumbers sokdrib_level_with(double modulus);
+
+/* The greatest level whose modulus for material 1 is not above `stiffness`; 29 below the lowest modulus, above the highest, and for a not-a-number. */
+SokdribLevelNumbers sokdrib_level_below(double stiffness);
 
 /* The volume of a tetrahedron, curved as its mid-side nodes make it. A node that is not there is the origin. This call and the three after it are
  * leaves: they work on nodes of any count and any bits, and refuse nothing; sokdrib_design refuses what is outside the domain. */

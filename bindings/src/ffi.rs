@@ -23,6 +23,14 @@ const _: () = assert!(size_of::<Mirror>() == 48 && align_of::<Mirror>() == 8);
 
 #[repr(C)]
 #[derive(Clone, Copy, Debug, Default, PartialEq)]
+pub struct LevelNumbers {
+    pub refused: u32,
+    pub level: u16,
+}
+const _: () = assert!(size_of::<LevelNumbers>() == 8 && align_of::<LevelNumbers>() == 4);
+
+#[repr(C)]
+#[derive(Clone, Copy, Debug, Default, PartialEq)]
 pub struct Made {
     pub refused: u32,
     pub nodes: u32,
@@ -158,7 +166,7 @@ pub struct Update {
 const _: () = assert!(size_of::<Update>() == 32 && align_of::<Update>() == 8);
 
 mod library {
-    use super::{Asymmetry, Kept, Made, Mirror, OffCentre, Projected, RunGoal, RunHeard, RunReturned, RunState, RunStep, Start, Update, Vec3};
+    use super::{Asymmetry, Kept, LevelNumbers, Made, Mirror, OffCentre, Projected, RunGoal, RunHeard, RunReturned, RunState, RunStep, Start, Update, Vec3};
 
     unsafe extern "C" {
         /// The size of x.
@@ -277,6 +285,10 @@ mod library {
             out: *mut f64,
             out_len: usize,
         );
+        /// The level whose modulus for material 1 is `modulus`; 29 where no level has it.
+        pub safe fn sokdrib_level_with(modulus: f64) -> LevelNumbers;
+        /// The greatest level whose modulus for material 1 is not above `stiffness`; 29 below the lowest modulus, above the highest, and for a not-a-number.
+        pub safe fn sokdrib_level_below(stiffness: f64) -> LevelNumbers;
         pub unsafe fn sokdrib_volume(nodes: *const [f64; 3], nodes_len: usize, tet: &[u32; 10]) -> f64;
         pub unsafe fn sokdrib_corner_volume(nodes: *const [f64; 3], nodes_len: usize, tet: &[u32; 10]) -> f64;
         pub unsafe fn sokdrib_centroid(nodes: *const [f64; 3], nodes_len: usize, tet: &[u32; 10]) -> Vec3;
@@ -566,11 +578,11 @@ mod library {
 }
 
 pub use library::{
-    sokdrib_abs, sokdrib_clamp, sokdrib_dist2_to_triangle, sokdrib_floor_at, sokdrib_from_bits, sokdrib_is_finite, sokdrib_level_of,
-    sokdrib_max, sokdrib_min, sokdrib_mirror_image, sokdrib_modulus, sokdrib_no_room, sokdrib_project, sokdrib_round_half_away,
-    sokdrib_sqrt, sokdrib_tanh, sokdrib_to_bits, sokdrib_total_key, sokdrib_vec3_add, sokdrib_vec3_cross, sokdrib_vec3_dist,
-    sokdrib_vec3_dot, sokdrib_vec3_is_finite, sokdrib_vec3_len, sokdrib_vec3_len2, sokdrib_vec3_max, sokdrib_vec3_min, sokdrib_vec3_new,
-    sokdrib_vec3_normalized, sokdrib_vec3_scale, sokdrib_vec3_sub
+    sokdrib_abs, sokdrib_clamp, sokdrib_dist2_to_triangle, sokdrib_floor_at, sokdrib_from_bits, sokdrib_is_finite, sokdrib_level_below,
+    sokdrib_level_of, sokdrib_level_with, sokdrib_max, sokdrib_min, sokdrib_mirror_image, sokdrib_modulus, sokdrib_no_room,
+    sokdrib_project, sokdrib_round_half_away, sokdrib_sqrt, sokdrib_tanh, sokdrib_to_bits, sokdrib_total_key, sokdrib_vec3_add,
+    sokdrib_vec3_cross, sokdrib_vec3_dist, sokdrib_vec3_dot, sokdrib_vec3_is_finite, sokdrib_vec3_len, sokdrib_vec3_len2, sokdrib_vec3_max,
+    sokdrib_vec3_min, sokdrib_vec3_new, sokdrib_vec3_normalized, sokdrib_vec3_scale, sokdrib_vec3_sub
 };
 
 /// The root of each of xs, as far as both lists go; the rest of out stays as lent.

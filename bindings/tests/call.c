@@ -9,6 +9,7 @@ int main(void) {
     if (sokdrib_dist2_to_triangle(p, a, b, c) != 1.0) return 2;
     if (sokdrib_mirror_image(mirror, sokdrib_vec3_new(2.0, 0.0, 0.0)).x != -2.0) return 3;
     if (sokdrib_level_of(0.5) != 500) return 4;
+    if (sokdrib_level_with(1.0).level != 1000 || sokdrib_level_with(0.5).refused != 29 || sokdrib_level_below(0.5).level != 793) return 11;
     sokdrib_sqrt_each(xs, 2, out, 3);
     if (out[0] != 2.0 || out[1] != 4.0 || out[2] != 9.0) return 5;
     sokdrib_sqrt_each(NULL, 0, out, 3);

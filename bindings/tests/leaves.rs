@@ -10,6 +10,16 @@ fn levels() {
 }
 
 #[test]
+fn levels_back() {
+    let modulus = |level| topo::modulus(level, 1.0);
+    assert!((0..=1000).all(|level| topo::level_with(modulus(level)) == Ok(level)));
+    let none = Err(sokdrib::Refused(29));
+    assert_eq!([0.5, f64::NAN, -0.0, modulus(1).next_up()].map(topo::level_with), [none; 4]);
+    assert_eq!([modulus(0), modulus(1).next_down(), modulus(700), modulus(701).next_down(), 1.0].map(topo::level_below), [0, 0, 700, 700, 1000].map(Ok));
+    assert_eq!([modulus(0).next_down(), 1.0f64.next_up(), f64::INFINITY, f64::NAN].map(topo::level_below), [none; 4]);
+}
+
+#[test]
 fn triangle() {
     let v = Vec3::new;
     let (a, b, c) = (v(0.0, 0.0, 0.0), v(1.0, 0.0, 0.0), v(0.0, 1.0, 0.0));

@@ -1,7 +1,7 @@
 //! The leaves: each function of the library beside the original's, or beside Rust's own where that is what the original calls.
 use crate::compare::Run;
 use crate::inputs::{Gen, Point, beside, binades, edge_pairs, edges, half_levels, hard_root, small_triangles, triangle};
-use sokdrib::{faces, geom, ieee, topo};
+use sokdrib::{Refused, faces, geom, ieee, topo};
 use tenon::stand_ins;
 
 fn theirs(p: Point) -> tenon::Vec3 {
@@ -150,6 +150,25 @@ fn solver(run: &mut Run) {
         _ => g.unit(),
     };
     run.leaf("level_of", densities, random, tenon::topo::level_of, topo::level_of);
+
+    // the way back, beside a scan of the Rust's own moduli
+    let moduli: Vec<f64> = (0..=1000).map(|level| tenon::topo::modulus(level, 1.0)).collect();
+    let stiffnesses = || edges().into_iter().chain(binades()).chain(moduli.iter().flat_map(|m| beside(*m)));
+    let random = |g: &mut Gen| match g.below(4) {
+        0 => g.float(),
+        1 => {
+            let modulus = moduli[g.below(1001)];
+            g.nudged(modulus)
+        }
+        _ => g.unit().powi(3),
+    };
+    let with = |m: f64| moduli.iter().position(|entry| *entry == m).map_or(29, |level| 1000 + level);
+    let below = |x: f64| {
+        if moduli[0] <= x && x <= moduli[1000] { 999 + moduli.iter().filter(|entry| **entry <= x).count() } else { 29 }
+    };
+    let told = |answer: Result<u16, Refused>| answer.map_or_else(|Refused(number)| number as usize, |level| 1000 + usize::from(level));
+    run.leaf("level_with", stiffnesses(), random, with, |m| told(topo::level_with(m)));
+    run.leaf("level_below", stiffnesses(), random, below, |x| told(topo::level_below(x)));
 }
 
 /// What a list that is too short, too long or empty leaves: both lists are lent, and the whole of the written one is compared.

@@ -1,6 +1,7 @@
 // The library for C and Rust: each function under a name of its own, with the contract of the function that it calls.
 mod filters;
 mod lengths;
+mod levels;
 mod meshes;
 mod regions;
 mod rounds;
