@@ -197,6 +197,44 @@ impl Run {
         self.differences += differences;
     }
 
+    /// Holds numbers of the library to a bound, and prints a line with the worst share of it. An input gives a share for each of its cases, and whether it
+    /// keeps the bound; it gets one random input for every `share` of a leaf's.
+    pub fn bound<I: Value>(
+        &mut self,
+        name: &str,
+        share: usize,
+        edges: impl IntoIterator<Item = I>,
+        mut random: impl FnMut(&mut Gen) -> I,
+        measured: impl Fn(&I) -> Vec<(f64, bool)>,
+    ) {
+        if self.only.as_ref().is_some_and(|only| only != name) {
+            return;
+        }
+        let began = Instant::now();
+        let mut random_inputs = Gen::of(self.seed, name);
+        let (mut cases, mut broken, mut worst) = (0, 0, 0.0f64);
+        let all = edges.into_iter().chain((0..self.cases.div_ceil(share)).map(|_| random(&mut random_inputs)));
+        for input in all {
+            for (part, kept) in measured(&input) {
+                cases += 1;
+                worst = worst.max(part);
+                if !kept {
+                    broken += 1;
+                    if broken <= SHOWN {
+                        println!("{name}: {part} of the bound: {}", shown(&input.bits()));
+                    }
+                }
+            }
+        }
+        println!(
+            "{name:<20} {cases:>10} cases {broken:>6} differences {:>7.1} s, worst share of the bound {worst:.5}",
+            began.elapsed().as_secs_f64()
+        );
+        self.functions += 1;
+        self.total += cases;
+        self.differences += broken;
+    }
+
     /// Prints the sum of all; whether they agree, and there is one.
     pub fn close(&self) -> bool {
         println!(

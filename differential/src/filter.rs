@@ -15,11 +15,11 @@ pub fn all(run: &mut Run) {
 
 /// Elements, and how long the lists are that are lent for their table, all filled with something.
 #[derive(Clone)]
-struct Build {
-    centroids: Vec<[f64; 3]>,
-    volumes: Vec<f64>,
-    radius: f64,
-    planes: Vec<[f64; 6]>,
+pub struct Build {
+    pub centroids: Vec<[f64; 3]>,
+    pub volumes: Vec<f64>,
+    pub radius: f64,
+    pub planes: Vec<[f64; 6]>,
     /// starts, near, coef, then the working lists
     lent: [usize; 11],
 }
@@ -81,7 +81,7 @@ fn planes(g: &mut Gen, middles: &[[f64; 3]]) -> Vec<[f64; 6]> {
         .collect()
 }
 
-fn vectors(points: &[[f64; 3]]) -> Vec<tenon::Vec3> {
+pub fn vectors(points: &[[f64; 3]]) -> Vec<tenon::Vec3> {
     points.iter().map(|p| tenon::Vec3::new(p[0], p[1], p[2])).collect()
 }
 
@@ -122,7 +122,14 @@ fn at_an_edge(g: &mut Gen) -> Part {
 }
 
 impl Build {
-    fn random(g: &mut Gen) -> Build {
+    /// With lists just long enough.
+    pub fn of(centroids: Vec<[f64; 3]>, volumes: Vec<f64>, radius: f64, planes: Vec<[f64; 6]>) -> Build {
+        let mut b = Build { lent: [0; 11], centroids, volumes, radius, planes };
+        b.lend();
+        b
+    }
+
+    pub fn random(g: &mut Gen) -> Build {
         let (centroids, radius, planes) = if g.below(8) == 0 { at_an_edge(g) } else { spread(g) };
         let n = centroids.len();
         let even = g.below(4) > 0;
@@ -135,8 +142,7 @@ impl Build {
             _ => 0.1 + g.unit(),
         };
         let volumes: Vec<f64> = (0..n).map(|_| volume(g)).collect();
-        let mut b = Build { lent: [0; 11], centroids, volumes, radius, planes };
-        b.lend();
+        let mut b = Build::of(centroids, volumes, radius, planes);
         match g.below(32) {
             // One place short of what it needs, or of one row's end.
             0 => b.lent[g.pick(&[0, 1, 2, 3, 4, 5, 6, 7, 8, 9, 10])] -= 1,
@@ -179,6 +185,13 @@ impl Build {
         let filter = Filter::new(&vectors(&self.centroids), &self.volumes, self.radius, &mirrors(&self.planes)).unwrap_or_default();
         self.lent = needs(self.centroids.len());
         (self.lent[1], self.lent[2]) = (filter.near.len(), filter.coef.len());
+    }
+
+    /// The table that the library builds, where it does.
+    pub fn built(&self) -> Option<Lists> {
+        let (mut t, mut w) = (self.table(), self.work());
+        let into = Into { starts: &mut t.starts, near: &mut t.near, coef: &mut t.coef };
+        filter::build(&self.centroids, &self.volumes, self.radius, &self.planes, into, &mut w).ok().map(|()| t)
     }
 
     fn table(&self) -> Lists {

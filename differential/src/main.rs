@@ -17,7 +17,9 @@ mod oc;
 mod plain;
 mod region;
 mod runs;
+mod shares;
 mod strips;
+mod whole;
 
 use std::path::PathBuf;
 use std::process::ExitCode;
@@ -58,6 +60,7 @@ fn main() -> ExitCode {
     mesh::all(&mut run);
     region::all(&mut run);
     filter::all(&mut run);
+    shares::all(&mut run);
     oc::all(&mut run);
     runs::all(&mut run);
     calls::all(&mut run);

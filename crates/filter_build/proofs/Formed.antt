@@ -25,11 +25,11 @@ use Rattle.filter_rows.proofs.Table.{start-more, length-coefficients}
 
 -- ---- places of a list laid over another, and of lists joined
 
-length-laid : {A : Type 0} (new l : List A) → length new ≤ length (overlay new l)
+pub length-laid : {A : Type 0} (new l : List A) → length new ≤ length (overlay new l)
 unfolding overlay
 length-laid new l = let e = length-append new (drop (length new) l) in omega arith
 
-getD-laid : {A : Type 0} (new l : List A) (k : ℕ) (d : A) → k < length new → getD (overlay new l) k d ≡ getD new k d
+pub getD-laid : {A : Type 0} (new l : List A) (k : ℕ) (d : A) → k < length new → getD (overlay new l) k d ≡ getD new k d
 unfolding overlay
 getD-laid new l k d h = List·getD-append new (drop (length new) l) d k h
 
@@ -46,7 +46,7 @@ module _ {A : Type 0} (f : ℕ → List A) where
       (λ (lt : e < n). let s = length-joined n in let b = joined-mono e n lt in omega arith)
       (eq-or-lt-of-le (omega arith))
 
-  getD-joined : (n e k : ℕ) (d : A) → e < n → k < length (f e) → getD (joined f n) (length (joined f e) + k) d ≡ getD (f e) k d
+  pub getD-joined : (n e k : ℕ) (d : A) → e < n → k < length (f e) → getD (joined f n) (length (joined f e) + k) d ≡ getD (f e) k d
   unfolding joined
   getD-joined zero e k d h lt = absurd (not-suc-le-zero h)
   getD-joined (suc n) e k d h lt =
@@ -70,7 +70,7 @@ module _ (centroids : List (List Float)) (radius : Float) (planes : List (List F
   unfolding columns
   columns-below e = chosen-rising (met centroids radius planes e) (length centroids) .below
 
-  start-mono : (e n : ℕ) → e < n → start centroids radius planes (e + 1) ≤ start centroids radius planes n
+  pub start-mono : (e n : ℕ) → e < n → start centroids radius planes (e + 1) ≤ start centroids radius planes n
   unfolding start neighbours
   start-mono e n h = let m = joined-mono row e n h in let s = start-more centroids radius planes e in omega arith
 
@@ -116,19 +116,19 @@ module _ (centroids : List (List Float)) (volumes : List Float) (radius : Float)
   starts-are : l' .starts ≡ overlay (tabulate begins (n + 1)) (l .starts)
   starts-are = rw accepted at (b .starts)
 
-  near-are : l' .near ≡ overlay (neighbours centroids radius planes n) (l .near)
+  pub near-are : l' .near ≡ overlay (neighbours centroids radius planes n) (l .near)
   near-are = rw accepted at (b .near)
 
-  coef-are : l' .coef ≡ overlay (coefficients centroids radius planes volumes n) (l .coef)
+  pub coef-are : l' .coef ≡ overlay (coefficients centroids radius planes volumes n) (l .coef)
   coef-are = rw accepted at (b .coef)
 
-  start-at : (e : ℕ) → e ≤ n → getD (l' .starts) e 0 ≡ begins e
+  pub start-at : (e : ℕ) → e ≤ n → getD (l' .starts) e 0 ≡ begins e
   start-at e h =
       ap (λ (s : List ℕ). getD s e 0) starts-are
       ∙ getD-laid (tabulate begins (n + 1)) (l .starts) e 0 (let t = length-tabulate begins (n + 1) in omega arith)
       ∙ getD-tabulate begins (n + 1) e 0 (omega arith)
 
-  near-at : (k : ℕ) → k < begins n → getD (l' .near) k 0 ≡ getD (neighbours centroids radius planes n) k 0
+  pub near-at : (k : ℕ) → k < begins n → getD (l' .near) k 0 ≡ getD (neighbours centroids radius planes n) k 0
   unfolding start
   near-at k h = ap (λ (s : List ℕ). getD s k 0) near-are ∙ getD-laid (neighbours centroids radius planes n) (l .near) k 0 h
 

@@ -1,0 +1,2 @@
+-- `Thirds` works the row out.
+pub mod Thirds

@@ -1,0 +1,2 @@
+-- `Thirds` has a row with weights of 1/3.
+pub mod Thirds

@@ -1,0 +1,2 @@
+-- `Shares` has the proof.
+pub mod Shares

@@ -1,0 +1,8 @@
+-- The table of the plain run is the one that the definitions give. Assumes nothing.
+use Rattle.filter_shares.proofs.Claims.{defined-near-one}
+use Rattle.run_plain.specs.Opening.{Opening, startsOf, coefOf}
+use Rattle.run_shares.specs.Shares.{RunNearOne}
+
+pub run-near-one : (o : Opening) → RunNearOne o
+unfolding startsOf coefOf
+run-near-one o = defined-near-one (o .centroids) (o .goal .radius) (o .mirrors) (o .volumes)
