@@ -1,17 +1,27 @@
-//! Document 02's bound on row weights, held to tables that the library builds, in whole numbers.
+//! Document 02's bounds on row weights and on what one nudged element can do, held to tables that the library builds, in whole numbers.
 use crate::compare::Run;
+use crate::fields;
 use crate::filter::{Build, vectors};
 use crate::inputs::Gen;
 use crate::lists::Lists;
 use crate::plain::mirrors;
-use crate::whole::Whole;
+use crate::whole::{Whole, parts};
+use sokdrib::ieee;
 use tenon::topo::mirror_group;
 
 pub fn all(run: &mut Run) {
+    let crowds = || std::iter::once_with(crowds).flatten();
     run.bound("row_weights", 500, crowds(), spread, weights);
+    let (mut g, mut h) = (Gen::of(run.seed, "few"), Gen::of(run.seed, "nudged"));
+    let edges = crowds().chain((0..run.cases / 50).map(move |_| few(&mut g))).map(move |b| Nudged::random(&mut h, b));
+    let random = |g: &mut Gen| {
+        let b = spread(g);
+        Nudged::random(g, b)
+    };
+    run.bound("nudges", 500, edges, random, moves);
 }
 
-/// Any build that is accepted; the volumes of some differ by what is lost in a sum.
+/// Any build, of which one that is refused has no rows; the volumes of some differ by what is lost in a sum.
 fn spread(g: &mut Gen) -> Build {
     let (b, unit) = (Build::random(g), g.unit());
     let volumes = match g.below(4) {
@@ -40,6 +50,13 @@ fn crowds() -> Vec<Build> {
     all
 }
 
+/// Two or three elements at one place: there each rounding is the largest part of the bound.
+fn few(g: &mut Gen) -> Build {
+    let n = 2 + g.below(2);
+    let volumes = (0..n).map(|_| 0.1 + g.unit()).collect();
+    Build::of(vec![[0.0; 3]; n], volumes, 1.0, Vec::new())
+}
+
 /// "finite and at least 2 to the power −1022"
 fn ordinary(x: f64) -> bool {
     x.is_finite() && x >= f64::MIN_POSITIVE
@@ -47,6 +64,7 @@ fn ordinary(x: f64) -> bool {
 
 /// A row that meets 02's condition: its place in the table, and k.
 struct Row {
+    e: usize,
     from: usize,
     to: usize,
     k: u128,
@@ -75,7 +93,7 @@ fn ordinary_rows(b: &Build, t: &Lists) -> Vec<Row> {
             }
         }
         let same = products.iter().zip(&t.coef[from..to]).all(|(p, a)| p / sum == *a && ordinary(*a));
-        (same && to > from).then_some(Row { from, to, k })
+        (same && to > from).then_some(Row { e, from, to, k })
     };
     (0..b.centroids.len()).filter_map(row).collect()
 }
@@ -92,6 +110,68 @@ fn weights(b: &Build) -> Vec<(f64, bool)> {
     ordinary_rows(b, &t).iter().map(|r| near_one(&t.coef[r.from..r.to], r.k)).collect()
 }
 
+/// A design, the element that is nudged, and its new value.
+struct Nudged {
+    build: Build,
+    design: Vec<f64>,
+    i: usize,
+    v: f64,
+}
+fields!(Nudged: build, design, i, v);
+
+impl Nudged {
+    fn random(g: &mut Gen, build: Build) -> Nudged {
+        let value = |g: &mut Gen| match g.below(6) {
+            0 => 0.001,
+            1 => 1.0,
+            2 => 1.0f64.next_down(),
+            _ => 0.001 + 0.999 * g.unit(),
+        };
+        let even = g.below(4) == 0;
+        let first = value(g);
+        let design: Vec<f64> = build.centroids.iter().map(|_| if even { first } else { value(g) }).collect();
+        let i = g.below(design.len());
+        let v = match (g.below(4), design.get(i)) {
+            (0, Some(old)) => old.next_up().min(1.0),
+            _ => value(g),
+        };
+        Nudged { build, design, i, v }
+    }
+}
+
+/// "moves by at most its weight for that element times the change, plus k·2 to the power −51": the share of that, of what is past the weight times the
+/// change, and whether it holds. Numbers from 0.001 to 1 are whole numbers of 2 to the power −62.
+fn moved([old, new]: [f64; 2], weight: f64, change: [f64; 2], k: u128) -> (f64, bool) {
+    let [a, b] = change.map(|x| (x * 2f64.powi(62)) as u64);
+    let (m, shift) = parts(weight);
+    let exact = Whole::of(u128::from(m) * u128::from(a.abs_diff(b)), shift + 1074 - 62);
+    let far = Whole::amount(old).apart(Whole::amount(new)).times_one();
+    let bound = Whole::of(k, 2097);
+    let past = if far > exact { far.apart(exact) } else { Whole::of(0, 0) };
+    (past.over(bound), past <= bound)
+}
+
+fn moves(n: &Nudged) -> Vec<(f64, bool)> {
+    let Some(t) = n.build.built() else { return Vec::new() };
+    let mut changed = n.design.clone();
+    changed[n.i] = n.v;
+    let filtered = |x: &[f64]| {
+        let mut out = vec![f64::NAN; x.len()];
+        t.ours().apply(x, &mut out);
+        out
+    };
+    let (old, new) = (filtered(&n.design), filtered(&changed));
+    let row = |e: usize| t.starts[e] as usize..t.starts[e + 1] as usize;
+    let weight = |e: usize| row(e).find(|p| t.near[*p] as usize == n.i).map(|p| t.coef[p]);
+    // "A row without that element gives equal bits."
+    let equal = (0..old.len()).filter(|e| weight(*e).is_none()).map(|e| (0.0, old[e].to_bits() == new[e].to_bits()));
+    let met = ordinary_rows(&n.build, &t).into_iter().filter_map(|r| {
+        let a = weight(r.e)?;
+        Some(moved([old[r.e], new[r.e]].map(ieee::clamp), a, [n.design[n.i], n.v], r.k))
+    });
+    equal.chain(met).collect()
+}
+
 #[cfg(test)]
 mod tests {
     use super::*;
@@ -104,5 +184,17 @@ mod tests {
         assert_eq!(near_one(&[0.5, 0.5 + 2f64.powi(-51)], 2), (1.0, true));
         assert!(!near_one(&[0.5, (0.5 + 2f64.powi(-51)).next_up()], 2).1);
         assert!(near_one(&[1.0], 0).1 && !near_one(&[1.0f64.next_down()], 0).1);
+    }
+
+    #[test]
+    fn past_the_move() {
+        // One element: the density is the design value itself.
+        assert_eq!(moved([0.5, 0.75], 1.0, [0.5, 0.75], 1), (0.0, true));
+        assert_eq!(moved([0.75, 0.5], 1.0, [0.75, 0.5], 1), (0.0, true));
+        // 2 to the power −51 more than the change, and the next float.
+        assert_eq!(moved([0.5, 0.75 + 2f64.powi(-51)], 1.0, [0.5, 0.75], 1), (1.0, true));
+        assert!(!moved([0.5, (0.75 + 2f64.powi(-51)).next_up()], 1.0, [0.5, 0.75], 1).1);
+        // A weight of a half.
+        assert!(moved([0.5, 0.625], 0.5, [0.5, 0.75], 1).1 && !moved([0.5, 0.75], 0.5, [0.5, 0.75], 1000).1);
     }
 }

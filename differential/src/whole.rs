@@ -37,6 +37,16 @@ impl Whole {
         Whole(w)
     }
 
+    /// Times 2 to the power 1074, which is what 1 has.
+    pub fn times_one(self) -> Whole {
+        let (mut w, by) = ([0; WORDS], 1074 % 64);
+        for k in 0..WORDS - 1074 / 64 {
+            let low = if k == 0 { 0 } else { self.0[k - 1] >> (64 - by) };
+            w[k + 1074 / 64] = self.0[k] << by | low;
+        }
+        Whole(w)
+    }
+
     /// How far apart two of them are.
     pub fn apart(self, o: Whole) -> Whole {
         let (more, less) = if self >= o { (self, o) } else { (o, self) };
@@ -92,6 +102,12 @@ mod tests {
         assert_eq!(Whole::amount(1.0), Whole::of(1, 1074));
         assert_eq!(Whole::amount(0.75).plus(Whole::amount(0.25)), Whole::of(1, 1074));
         assert_eq!(Whole::amount(f64::MAX), Whole::of((1 << 53) - 1, 2045));
+    }
+
+    #[test]
+    fn times_one() {
+        assert_eq!(Whole::amount(0.75).times_one(), Whole::of(3, 2146));
+        assert_eq!(Whole::of(u128::MAX, 7).times_one(), Whole::of(u128::MAX, 1081));
     }
 
     #[test]

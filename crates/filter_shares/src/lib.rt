@@ -1,1 +1,1 @@
-// How near the weights of a filter row come to a sum of one: stated in specs/ and proved in proofs/. There is no code here.
+// How near the weights of a filter row come to a sum of one, and what one nudged element can do: stated in specs/ and proved in proofs/. There is no code here.

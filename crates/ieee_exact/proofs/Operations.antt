@@ -1,14 +1,14 @@
 -- A sum, a product and a quotient of values that are not below zero, by their numbers of smallest values. Assumes nothing.
 use mathlib.Core.Path.{_≡_, sym, ap, _∙_, subst}
 use Prim.Native.Nat.{ℕ, _+_, _*_, _^_, _≤_, _<_}
-use native.Mathlib.Nat.{lt-irrefl, mul-comm, mul-assoc, mul-left-comm, mul-right-comm, add-mul, zero-mul, mul-pos, eq-of-mul-eq-mul-right}
+use native.Mathlib.Nat.{lt-irrefl, mul-comm, mul-assoc, mul-left-comm, mul-right-comm, mul-mul-mul-comm, add-mul, zero-mul, mul-pos, eq-of-mul-eq-mul-right}
 use native.Mathlib.Omega.{arith}
 use mathlib.Core.Bool.{Bool, true, false, cond, true≢false}
 use lib.IntN.{ℤ}
 use lib.Dec.{T, eqb}
 use lib.Pow.{pow-pos}
 use borrow.Author.Tests.{ne-eqb}
-use lib.Ieee.{Float, nan, inf, fin, Format, low, up, down, add, div, sum, round, fits, le}
+use lib.Ieee.{Float, nan, inf, fin, Format, low, up, down, add, mul, div, sum, round, fits, le}
 use lib.Ieee.Fits.{up-pos, down-pos}
 use lib.Ieee.Exact.{HasValue}
 use lib.Ieee.Positive.{positive, above, above-of-le}
@@ -71,6 +71,18 @@ add-is f (fin false m e) (fin true n d) a b p q = absurd (true≢false (q .0))
 add-is f (fin false m e) (fin false n d) a b p q =
     round-same f false (m * up e * down d + n * up d * down e) (down e * down d) (a + b) (2 ^ low f) (mul-pos (down-pos e) (down-pos d)) (pow-pos (low f))
     (sum-same (m * up e) (n * up d) (down e) (down d) a b (2 ^ low f) (p .1) (q .1))
+
+pub mul-is : (f : Format) (x y : Float) (a b : ℕ) → HasValue x false a (2 ^ low f) → HasValue y false b (2 ^ low f) → mul f x y ≡ round f false (a * b) (2 ^ low f * 2 ^ low f)
+unfolding mul
+mul-is f nan y a b p q = absurd p
+mul-is f (inf s) y a b p q = absurd p
+mul-is f (fin true m e) y a b p q = absurd (true≢false (p .0))
+mul-is f (fin false m e) nan a b p q = absurd q
+mul-is f (fin false m e) (inf t) a b p q = absurd q
+mul-is f (fin false m e) (fin true n d) a b p q = absurd (true≢false (q .0))
+mul-is f (fin false m e) (fin false n d) a b p q =
+    round-same f false (m * up e * (n * up d)) (down e * down d) (a * b) (2 ^ low f * 2 ^ low f) (mul-pos (down-pos e) (down-pos d)) (mul-pos (pow-pos (low f)) (pow-pos (low f)))
+    (mul-mul-mul-comm (m * up e) (n * up d) (2 ^ low f) (2 ^ low f) ∙ ap (λ (z : ℕ). z * (n * up d * 2 ^ low f)) (p .1) ∙ ap (λ (z : ℕ). a * down e * z) (q .1) ∙ mul-mul-mul-comm a (down e) b (down d))
 
 part-same : (x y de dd a b l : ℕ) → 0 < l → x * l ≡ a * de → y * l ≡ b * dd → x * dd * b ≡ a * (y * de)
 part-same x y de dd a b l L p q =

@@ -1,5 +1,5 @@
 -- Finite floats as whole numbers, so that a claim on their exact values needs no fractions: 02's "no real arithmetic enters". Definitions only.
-use Prim.Native.Nat.{ℕ, zero, suc, _+_, _*_, _/_, _^_}
+use Prim.Native.Nat.{ℕ, zero, suc, _+_, _-_, _*_, _/_, _^_}
 use lib.Ieee.{Float, nan, inf, fin, Format, low, up, down}
 
 -- the size of a finite x, counted in the format's smallest value: for f64 it is x times 2 ^ 1074, which is a whole number
@@ -12,3 +12,7 @@ amount f (fin s m e) = m * up e * 2 ^ low f / down e
 unfoldable pub total : (ℕ → ℕ) → ℕ → ℕ
 total f zero = 0
 total f (suc n) = total f n + f n
+
+-- how far apart two numbers are
+abbrev pub apart : ℕ → ℕ → ℕ
+apart a b = (a - b) + (b - a)

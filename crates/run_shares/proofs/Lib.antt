@@ -1,2 +1,2 @@
--- `Shares` has the proof.
+-- `Shares` has the proofs.
 pub mod Shares

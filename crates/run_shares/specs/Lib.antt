@@ -1,2 +1,2 @@
--- `Shares` has the claim on row weights, of the table that the plain run reads.
+-- `Shares` has the claims on row weights and on one nudged element, of the table that the plain run reads.
 pub mod Shares
