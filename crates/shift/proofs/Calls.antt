@@ -14,7 +14,7 @@ use Rattle.lists.proofs.Bools.{eq-or-ne}
 use Rattle.shift.specs.declared.Shift.{Shift}
 use Rattle.shift.specs.declared.ShiftGrant.{ShiftGrant}
 use Rattle.shift.specs.Grants.{shareAt, limitAt, grantedAt, sumOf, wrongNumbers, wrongAt, failsTest, unknownJob, isNamed, waits, chosenOf, grantedTo, refusedWith, grantOf}
-use Rattle.shift.specs.Shared.{First}
+use Rattle.shift.specs.Shared.{First, Fixed}
 use Rattle.shift.proofs.Sums.{sum-raised}
 use Rattle.shift.proofs.Tests.{Passed, passed, passing, has-share, one-more}
 use Rattle.shift.proofs.Replies.{nobody, refused-20, refused-30, refused-31, granted}
@@ -135,12 +135,7 @@ runs-on s named r =
     (m .room)))
     (outcome s named)
 
--- and its shares and limits as they were
-pub record Fixed (s t : Shift) : Type 0 where
-  pub jobs : t .jobs ≡ s .jobs
-  pub share : t .share ≡ s .share
-  pub limit : t .limit ≡ s .limit
-
+-- and its jobs, shares and limits as they were
 pub fixed-raised : (s : Shift) (j : ℕ) → Fixed s (grantedTo s j)
 unfolding grantedTo
 fixed-raised s j = record { jobs = refl; share = refl; limit = refl }

@@ -14,10 +14,10 @@ use Rattle.lists.proofs.Laws.{choose-true, choose-false, both}
 use Rattle.lists.proofs.Bools.{eq-or-ne, never}
 use Rattle.shift.specs.declared.Shift.{Shift}
 use Rattle.shift.specs.Grants.{shareAt, limitAt, grantedAt, sumOf, shareOf, limitOf, unfitJobs, fresh, beginOf, wrongNumbers, failsTest, unknownJob, isNamed, waits, sooner, turn, chosenOf, grantedTo, grantOf}
-use Rattle.shift.specs.Shared.{Calls, left, replies, grants, grantsTo, waitsAtEach, Shared, SmallMet}
+use Rattle.shift.specs.Shared.{Calls, left, replies, grants, grantsTo, waitsAtEach, Fixed, Shared, SmallMet}
 use Rattle.shift.proofs.Sums.{sum-zero, sum-below, sum-times, times-sum}
 use Rattle.shift.proofs.Tests.{passed, right-at}
-use Rattle.shift.proofs.Calls.{Kept, Made, outcome, Running, raised-here, raised-other, raised-sum, runs-on, Fixed, fixed-raised, fixed}
+use Rattle.shift.proofs.Calls.{Kept, Made, outcome, Running, raised-here, raised-other, raised-sum, runs-on, fixed-raised, fixed}
 use Rattle.shift.proofs.Begins.{Begun, begins}
 
 -- ---- one call
@@ -175,6 +175,7 @@ shared =
     record {
       first = λ s named e. ⊎-elim (λ (k : Kept s named). never (eq-eqb _ 0 e) (k .unmade)) (λ (m : Made s named). m .first) (outcome s named);
       kept = λ s named e. ⊎-elim (λ (k : Kept s named). k .same) (λ (m : Made s named). never (m .made) e) (outcome s named);
+      fixed = stay;
       passes = λ jobs e calls. on (beginOf jobs .shift) calls (begins jobs e .running) .passes;
       adds-up = all-added;
       each-count = each-added;

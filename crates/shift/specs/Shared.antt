@@ -43,9 +43,16 @@ pub record First (s : Shift) (named : List ℕ) (j : ℕ) : Type 0 where
   pub smallest : (k : ℕ) → k < 16 → waits s (isNamed named) k ≡ true → (grantedAt s j + 1) * shareAt s k ≤ (grantedAt s k + 1) * shareAt s j
   pub lowest : (k : ℕ) → k < j → waits s (isNamed named) k ≡ true → (grantedAt s j + 1) * shareAt s k < (grantedAt s k + 1) * shareAt s j
 
+-- "fixed for the shift like its limit"
+pub record Fixed (s t : Shift) : Type 0 where
+  pub jobs : t .jobs ≡ s .jobs
+  pub share : t .share ≡ s .share
+  pub limit : t .limit ≡ s .limit
+
 pub record Shared : Type 0 where
   pub first : (s : Shift) (named : List ℕ) → grantOf s named .refused ≡ 0 → First s named (grantOf s named .job)
   pub kept : (s : Shift) (named : List ℕ) → eqb (grantOf s named .refused) 0 ≡ false → grantOf s named .shift ≡ s
+  pub fixed : (s : Shift) (calls : Calls) → Fixed s (left s calls)
   -- "every shift so run passes" 20's test
   pub passes : (jobs : List (List ℕ)) → beginOf jobs .refused ≡ 0 → (calls : Calls) → failsTest (left (beginOf jobs .shift) calls) ≡ false
   -- "The counts add up to the grants made in the shift", each job's to those made to it
@@ -57,7 +64,8 @@ pub record Shared : Type 0 where
   pub at-most : (jobs : List (List ℕ)) → beginOf jobs .refused ≡ 0 → (calls : Calls) → grants (replies (beginOf jobs .shift) calls) ≤ 1000000
   pub within-limit : (jobs : List (List ℕ)) → beginOf jobs .refused ≡ 0 → (calls : Calls) (j : ℕ) → j < 16
       → grantsTo j (replies (beginOf jobs .shift) calls) ≤ limitAt (beginOf jobs .shift) j
-  -- "A job waiting at each of the shift's first S grants has at least the whole part of S·share/(sum of all shares) of them, however the others come and go"
+  -- "A job waiting at each of the shift's first S grants has at least the whole part of S·share/(sum of all shares) of them, however the others come and go":
+  -- S is the number of grants made in a list of calls, a longer list's front among these
   pub fair : (jobs : List (List ℕ)) → beginOf jobs .refused ≡ 0 → (calls : Calls) (j : ℕ) → j < beginOf jobs .shift .jobs
       → waitsAtEach j (beginOf jobs .shift) calls ≡ true
       → grants (replies (beginOf jobs .shift) calls) * shareAt (beginOf jobs .shift) j / sumOf (shareAt (beginOf jobs .shift)) 16
