@@ -30,7 +30,7 @@ pub fn all(run: &mut Run) {
     run.jobs("shift_calls", 1000, small_shifts(), |g| Calls::random(g), |c| (c.by_reference(), true), |c| c.by_library());
     run.jobs(
         "shift_used_up",
-        run.cases,
+        run.cases.max(1),
         [vec![1, 1], vec![1, 2, 1000]],
         |g| vec![1 + g.below(1000) as u32; 1 + g.below(16)],
         used_up_reference,

@@ -8,9 +8,9 @@ use native.Mathlib.Omega.{arith}
 use lib.Dec.{leb, ltb, eqb}
 use lib.ListN.{length, length-set}
 use lib.Seq.{getD-set-same, getD-set-other}
-use borrow.Author.Tests.{ltb-true, leb-false, eqb-false}
+use borrow.Author.Tests.{ltb-true, leb-false, eqb-false, lt-leb, ne-eqb}
 use Rattle.lists.proofs.Laws.{neither, both}
-use Rattle.lists.proofs.Bools.{eq-or-ne}
+use Rattle.lists.proofs.Bools.{eq-or-ne, never}
 use Rattle.shift.specs.declared.Shift.{Shift}
 use Rattle.shift.specs.declared.ShiftGrant.{ShiftGrant}
 use Rattle.shift.specs.Grants.{shareAt, limitAt, grantedAt, sumOf, wrongNumbers, wrongAt, failsTest, unknownJob, isNamed, waits, chosenOf, grantedTo, refusedWith, grantOf}
@@ -47,6 +47,16 @@ module _ (s : Shift) (named : List ℕ) where
       ⊎-elim
       (λ (n : Nobody s (isNamed named) (shared (passed s e)) 16 (chosenOf s named)). absurd (omega (arith, n .none)))
       (λ (b : Best s (isNamed named) (shared (passed s e)) 16 (chosenOf s named)). record { waiting = b .waiting; smallest = b .smallest; lowest = b .lowest })
+      (best-of s (isNamed named) (shared (passed s e)) 16 (omega arith))
+
+  -- where somebody waits and there is room, the question is granted
+  pub somebody : failsTest s ≡ false → unknownJob (s .jobs) named ≡ false → (sumOf (grantedAt s) 16 ≡ 1000000 → ⊥) → (k : ℕ) → k < 16 → waits s (isNamed named) k ≡ true → grantOf s named .refused ≡ 0
+  unfolding chosenOf
+  somebody e f room k h w =
+      ⊎-elim
+      (λ (n : Nobody s (isNamed named) (shared (passed s e)) 16 (chosenOf s named)). never w (n .idle k h))
+      (λ (b : Best s (isNamed named) (shared (passed s e)) 16 (chosenOf s named)).
+      sym (ap (λ (r : ShiftGrant). r .refused) (granted s named (chosenOf s named) (sumOf (grantedAt s) 16) e f refl refl (rw (lt-leb 16 (chosenOf s named) (b .below), ne-eqb (sumOf (grantedAt s) 16) 1000000 room)))))
       (best-of s (isNamed named) (shared (passed s e)) 16 (omega arith))
 
   made-by : failsTest s ≡ false → unknownJob (s .jobs) named ≡ false → nobody s named (chosenOf s named) (sumOf (grantedAt s) 16) ≡ false → Made s named

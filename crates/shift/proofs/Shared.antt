@@ -17,7 +17,7 @@ use Rattle.shift.specs.Grants.{shareAt, limitAt, grantedAt, sumOf, share
 use Rattle.shift.specs.Shared.{Calls, left, replies, grants, grantsTo, waitsAtEach, Fixed, Shared, SmallMet}
 use Rattle.shift.proofs.Sums.{sum-zero, sum-below, sum-times, times-sum}
 use Rattle.shift.proofs.Tests.{passed, right-at}
-use Rattle.shift.proofs.Calls.{Kept, Made, outcome, Running, raised-here, raised-other, raised-sum, runs-on, fixed-raised, fixed}
+use Rattle.shift.proofs.Calls.{Kept, Made, outcome, somebody, Running, raised-here, raised-other, raised-sum, runs-on, fixed-raised, fixed}
 use Rattle.shift.proofs.Begins.{Begun, begins}
 
 -- ---- one call
@@ -175,6 +175,7 @@ shared =
     record {
       first = λ s named e. ⊎-elim (λ (k : Kept s named). never (eq-eqb _ 0 e) (k .unmade)) (λ (m : Made s named). m .first) (outcome s named);
       kept = λ s named e. ⊎-elim (λ (k : Kept s named). k .same) (λ (m : Made s named). never (m .made) e) (outcome s named);
+      granted = somebody;
       fixed = stay;
       passes = λ jobs e calls. on (beginOf jobs .shift) calls (begins jobs e .running) .passes;
       adds-up = all-added;

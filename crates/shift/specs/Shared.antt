@@ -7,7 +7,7 @@ use lib.Dec.{eqb}
 use Rattle.lists.specs.Lists.{choose}
 use Rattle.shift.specs.declared.Shift.{Shift}
 use Rattle.shift.specs.declared.ShiftGrant.{ShiftGrant}
-use Rattle.shift.specs.Grants.{shareAt, limitAt, grantedAt, sumOf, beginOf, failsTest, isNamed, waits, grantOf}
+use Rattle.shift.specs.Grants.{shareAt, limitAt, grantedAt, sumOf, beginOf, failsTest, unknownJob, isNamed, waits, grantOf}
 
 -- a call's names, and a list of calls
 abbrev pub Calls : Type 0
@@ -52,6 +52,9 @@ pub record Fixed (s t : Shift) : Type 0 where
 pub record Shared : Type 0 where
   pub first : (s : Shift) (named : List ℕ) → grantOf s named .refused ≡ 0 → First s named (grantOf s named .job)
   pub kept : (s : Shift) (named : List ℕ) → eqb (grantOf s named .refused) 0 ≡ false → grantOf s named .shift ≡ s
+  -- 31 only "when no job waits or the shift is used up": where a job waits and there is room, the question is granted
+  pub granted : (s : Shift) (named : List ℕ) → failsTest s ≡ false → unknownJob (s .jobs) named ≡ false → (sumOf (grantedAt s) 16 ≡ 1000000 → ⊥)
+      → (k : ℕ) → k < 16 → waits s (isNamed named) k ≡ true → grantOf s named .refused ≡ 0
   pub fixed : (s : Shift) (calls : Calls) → Fixed s (left s calls)
   -- "every shift so run passes" 20's test
   pub passes : (jobs : List (List ℕ)) → beginOf jobs .refused ≡ 0 → (calls : Calls) → failsTest (left (beginOf jobs .shift) calls) ≡ false
