@@ -6,6 +6,7 @@ use mathlib.Core.List.{List}
 use Prim.Native.Nat.{ℕ, suc, _≤_}
 use lib.ListN.{length, take}
 use lib.Ieee.{Float}
+use Rattle.lent.specs.Lent.{Free}
 use Rattle.lists.specs.Lists.{choose, overlay}
 use Rattle.topo.specs.declared.Iteration.{Iteration}
 use Rattle.oc_seen.specs.declared.Sharpness.the-variants.{Off, At}
@@ -18,7 +19,7 @@ use Rattle.run_plain.specs.Formulas.{Case, sharpness, updateAt, recordAt}
 use Rattle.run_plain.specs.Calls.{Core, Arguments, listsOf, steepAt, firstState, answerBy}
 use Rattle.run_round.specs.Round.{caseAt}
 use Rattle.run_answer.specs.declared.Step.{Step}
-use Rattle.run_answer.specs.Answers.{Work, Scratched, Scratch, recorded}
+use Rattle.run_answer.specs.Answers.{Work, Scratch, recorded}
 
 -- lists that are long enough for a question, and for a round
 pub record Asks (s : State) (p : List Bool) (st ne : List ℕ) (co x q sp : List Float) : Type 0 where
@@ -78,7 +79,7 @@ pub record Begun (s : State) (energies : List Float) (room : ℕ) (p : List Bool
   pub reply : r .returned .reply ≡ Round 1
   pub at : r .at ≡ room
   pub density : q′ ≡ overlay (questionAt s (s .progress .stage) p st ne co x) q
-  pub slope : Scratched (s .setting .elements) sp sp′
+  pub slope : Free (s .setting .elements) sp sp′
 
 -- a round is solved and recorded: a stop, or the next round
 pub record Followed (s : State) (a : Arguments) (l : Core) (w : Work) (r : Step) (o : Core) (w′ : Work) : Type 0 where

@@ -2,7 +2,7 @@
 ghost use mathlib.Core.Path.{_≡_};
 ghost use Prim.Native.Nat.{_<_};
 ghost use Rattle.lists.specs.Lists.{overlay};
-ghost use Rattle.run_answer.specs.Answers.{Scratched};
+ghost use Rattle.lent.specs.Lent.{Free};
 ghost use Rattle.run_answer.specs.Steps.{Asks, Enough, questionAt, Solved};
 use run_plain::State;
 use topo::Iteration;
@@ -21,7 +21,7 @@ pub fn ask(
 )
     requires { ⌜ Asks state (now passive) (now starts) (now near) (now coef) (now design) (now density) (now spare) ⌝ }
     ensures { λ _. ⌜ (now (density .exit) ≡ overlay (questionAt state stage (now (passive .entry)) (now (starts .entry)) (now (near .entry)) (now (coef .entry)) (now (design .entry))) (now (density .entry)))
-        × Scratched (state .setting .elements) (now (spare .entry)) (now (spare .exit)) ⌝ }
+        × Free (state .setting .elements) (now (spare .entry)) (now (spare .exit)) ⌝ }
 {
     let n = state.setting.elements;
     let e = state.setting.entries;

@@ -4,7 +4,7 @@ use mathlib.Core.Path.{_≡_}
 use mathlib.Core.Bool.{Bool, true, false, not, _&&_, _||_}
 use mathlib.Core.List.{List, [], _∷_}
 use Prim.Native.Nat.{ℕ, zero, suc}
-use lib.ListN.{length, take, drop, set, replicate}
+use lib.ListN.{length, take, set, replicate}
 use lib.Dec.{ltb, leb, eqb}
 use lib.Ieee.{Float}
 use Rattle.lists.specs.Lists.{choose, zero64, overlay}
@@ -336,13 +336,6 @@ inTurn Round = false
 -- the contract of `open`
 unfoldable pub openOf : State → Asked → List ℕ → Lists → Result
 openOf s g work l = choose (inTurn (s .phase)) (openBy s (openingOf g work l) l (entryOf (openingOf g work l))) (keeps s 20 l)
-
--- what an opening leaves in a working list, n places of which it needs: as lent, zero throughout, or free in the needed places alone
-abbrev pub workBy : {A : Type 0} → A → ℕ → List A → List A → Entry → Type 0
-workBy z n before later (KeptOut k) = later ≡ before
-workBy z n before later (Zeroed k) = later ≡ replicate (length before) z
-workBy z n before later Shut = later ≡ replicate (length before) z
-workBy z n before later Opens = (length later ≡ length before) × (drop n later ≡ drop n before)
 
 -- ---- the caller: it holds a state and lists, lends each call the first places of each list, and writes nothing meanwhile
 pub record World : Type 0 where

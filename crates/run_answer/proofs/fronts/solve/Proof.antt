@@ -10,7 +10,7 @@ use denote.Ref.{now}
 use Rattle.run_plain.specs.Formulas.{Case, updateAt, recordAt}
 use Rattle.run_plain.specs.Calls.{steepAt}
 use Rattle.run_round.specs.Round.{caseAt}
-use Rattle.run_answer.specs.Answers.{Scratched}
+use Rattle.lent.specs.Lent.{Free}
 use Rattle.run_answer.proofs.Prefix.{front, as-long, laid, scratched, take-one}
 use borrow.Author.Needs.{needs}
 use Rattle.run_answer.proofs.fronts.solve.Statement.{statement}
@@ -131,7 +131,7 @@ solve-requires c κs =
 
 -- ---- what the round leaves in the lists that it writes
 abbrev Left : tie.After-solve → List Float → List Float → Type 0
-Left m l ys = Scratched (elements (entry m)) l (ys ++ drop (elements (entry m)) l)
+Left m l ys = Free (elements (entry m)) l (ys ++ drop (elements (entry m)) l)
 
 design-left : (m : tie.After-solve) → Left m (now (entry m .args .design)) (m .solve .last .1 .1 .1 .1 .1 .1 .1 .1 .1 .1 .1 .0)
 design-left m =
@@ -158,28 +158,28 @@ dv-left m =
     scratched _ (m .solve .last .1 .1 .1 .1 .1 .1 .1 .1 .1 .1 .1 .1 .1 .1 .1 .1 .0) (now (entry m .args .dv)) (m .solve .kept .1 .1 .1 .1 .1 .1 .1 .1 .1 .1 .1 .1 .1 .1 .1 .1 .0) (entry m .pre .0 .dv)
 
 same-length : tie.Need-same-length
-same-length c = design-left (called c) .long
+same-length c = design-left (called c) .0
 
 same-length-2 : tie.Need-same-length-2
 same-length-2 c =
     let b = entry (called c) in
     let f = copied (shared (lent (called c .before))) .copy in
-    scratched (elements b) (f .last .1 .0) (now (b .args .last)) (f .kept .1 .0) (b .pre .0 .last) .long
+    scratched (elements b) (f .last .1 .0) (now (b .args .last)) (f .kept .1 .0) (b .pre .0 .last) .0
 
 same-length-3 : tie.Need-same-length-3
-same-length-3 c = free-left (called c) .long
+same-length-3 c = free-left (called c) .0
 
 same-length-4 : tie.Need-same-length-4
-same-length-4 c = slope-left (called c) .long
+same-length-4 c = slope-left (called c) .0
 
 same-length-5 : tie.Need-same-length-5
-same-length-5 c = spare-left (called c) .long
+same-length-5 c = spare-left (called c) .0
 
 same-length-6 : tie.Need-same-length-6
-same-length-6 c = dc-left (called c) .long
+same-length-6 c = dc-left (called c) .0
 
 same-length-7 : tie.Need-same-length-7
-same-length-7 c = dv-left (called c) .long
+same-length-7 c = dv-left (called c) .0
 
 returns : tie.Need-returns
 returns c =
