@@ -164,6 +164,11 @@ typedef struct {
     double sharpness;
     double grey;
     size_t passes;
+    uint32_t ending;
+    double first;
+    double second;
+    double least;
+    double greatest;
 } SokdribRunRecord;
 
 typedef struct {
@@ -194,8 +199,8 @@ _Static_assert(sizeof(SokdribRunState) == 96, "SokdribRunState");
 _Static_assert(sizeof(SokdribRunGoal) == 32, "SokdribRunGoal");
 _Static_assert(sizeof(SokdribRunReturned) == 112, "SokdribRunReturned");
 _Static_assert(sizeof(SokdribRunHeard) == 24, "SokdribRunHeard");
-_Static_assert(sizeof(SokdribRunRecord) == 56, "SokdribRunRecord");
-_Static_assert(sizeof(SokdribRunStep) == 176, "SokdribRunStep");
+_Static_assert(sizeof(SokdribRunRecord) == 96, "SokdribRunRecord");
+_Static_assert(sizeof(SokdribRunStep) == 216, "SokdribRunStep");
 _Static_assert(sizeof(SokdribUpdate) == 32, "SokdribUpdate");
 #endif
 
