@@ -7,7 +7,8 @@ pub use crate::oc::Ending;
 use crate::{Refused, ffi};
 pub use ffi::{RunGoal as Goal, RunState as State};
 
-/// A round's record. Work, share, steepness and grey are of the densities that its question was put with; what follows is of its update.
+/// A round's record. Work, share and grey are of the densities that its question was put with; change, passes, ending, least and greatest are of the
+/// update that followed.
 #[derive(Clone, Copy, Debug, Default, PartialEq)]
 pub struct Iteration {
     /// From 1.
@@ -16,7 +17,7 @@ pub struct Iteration {
     pub compliance: f64,
     /// The share of the volume that is kept.
     pub fraction: f64,
-    /// The most that a design value changed in the update.
+    /// The most that a design value changed.
     pub change: f64,
     /// The steepness, 1 without sharpening.
     pub sharpness: f64,
@@ -26,7 +27,7 @@ pub struct Iteration {
     pub passes: usize,
     /// How the update ended.
     pub ending: Ending,
-    /// The least design value of the free elements after the update.
+    /// The least design value of the free elements after it.
     pub least: f64,
     /// And the greatest.
     pub greatest: f64,
