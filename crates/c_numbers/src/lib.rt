@@ -238,6 +238,9 @@ fn record_numbers(i: Iteration) -> RunRecord
     ensures { λ r. ⌜ r ≡ Flat.recordNumbers i ⌝ }
 {
     let e = i.ending;
+    let ending = c_ending::number(e);
+    let first = c_ending::first(e);
+    let second = c_ending::second(e);
     RunRecord {
         number: i.number,
         compliance: i.compliance,
@@ -246,9 +249,9 @@ fn record_numbers(i: Iteration) -> RunRecord
         sharpness: i.sharpness,
         grey: i.grey,
         passes: i.passes,
-        ending: c_ending::number(e),
-        first: c_ending::first(e),
-        second: c_ending::second(e),
+        ending,
+        first,
+        second,
         least: i.least,
         greatest: i.greatest,
     }
