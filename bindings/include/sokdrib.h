@@ -44,17 +44,24 @@
  *   17  an energy not finite. Left: over. By: answer.
  *   18  the solver failed. Left: over. By: answer.
  *   19  the solid part's work not above 0. Left: over. By: answer.
- *   20  call out of turn, or a state that no run has ("A run", docs/API.md). Left: kept. By: open, answer.
+ *   20  call out of turn, a state that no run has ("A run", docs/API.md), or, across C, a sharpening above 2 in the
+ *       goal or the state; a shift that fails the test of its numbers ("A shift"). Left: kept. By: open, answer; of a
+ *       shift shift_grant.
  *   21  a boundary triangle names a node that is not there. Left: kept. By: passive, asymmetry.
  *   22  the job strip is malformed. Left: kept. By: the calls of strip_stream and strip_read, program shape: none of
  *       C's.
  *   29  level_with: no level's modulus is the one given; level_below: a number below the lowest modulus or above the
  *       highest, or not a number. Left: kept: nothing is lent. By: level_with, level_below.
+ *   30  shift_begin: no jobs or more than sixteen, a share not from 1 to 1,000, or a limit above 1,000,000;
+ *       shift_grant: a number that no job of the shift has. Left: kept; a beginning is lent no shift. By: shift_begin,
+ *       shift_grant.
+ *   31  none of the jobs named is below its limit, none named among it, or all 1,000,000 questions of the shift are
+ *       granted. Left: kept. By: shift_grant.
  *
  * Where several apply, the first of these is given. open: 20, 1 to 12, 14; row by row 13, 14; last 15. filter_build: the
  * same without 20, 5, 6, 7 and 15. answer: 20, 14; 15 or 18 as the solver said; 16, 17, 19, last 15. Mesh calls (design,
  * block, passive, asymmetry, off_centre): those that they have of 3, 21, 9, 11, 8, 14. Parts of a round (start, see,
- * work_slope, volume_slope, kept, update): 1, 14. A strip: 22, 14. The way back from a stiffness: 29. Every other call is a leaf or works with whatever it
+ * work_slope, volume_slope, kept, update): 1, 14. A strip: 22, 14. The way back from a stiffness: 29. A shift: 30 at its beginning; shift_grant: 20, 30, 31. Every other call is a leaf or works with whatever it
  * is given, and refuses nothing. */
 #ifndef SOKDRIB_H
 #define SOKDRIB_H
@@ -73,6 +80,7 @@ typedef struct {
     double z;
 } SokdribVec3;
 
+/* A plane: a point on it and its normal, which need not be of unit length here. */
 typedef struct {
     SokdribVec3 point;
     SokdribVec3 normal;
@@ -83,6 +91,7 @@ typedef struct {
     uint16_t level;
 } SokdribLevelNumbers;
 
+/* The counts of a mesh; or the refusal, with no counts. */
 typedef struct {
     uint32_t refused;
     uint32_t nodes;
@@ -90,11 +99,14 @@ typedef struct {
     uint32_t tris;
 } SokdribMade;
 
+/* How far a boundary is from its image, or the number of a refusal and 0. */
 typedef struct {
     uint32_t refused;
     double distance;
 } SokdribAsymmetry;
 
+/* How far points reach to each side of a plane, where they are off its middle. Where they are about even, where there are none, and at a refusal, off is
+ * false and the reaches are 0. */
 typedef struct {
     uint32_t refused;
     bool off;
@@ -102,6 +114,7 @@ typedef struct {
     double behind;
 } SokdribOffCentre;
 
+/* What a run starts with, or the number of a refusal and zeros. */
 typedef struct {
     uint32_t refused;
     double total;
@@ -116,17 +129,20 @@ typedef struct {
     double slope;
 } SokdribProjected;
 
+/* The volume that a design keeps, or the number of a refusal and 0. */
 typedef struct {
     uint32_t refused;
     double volume;
 } SokdribKept;
 
+/* A run as it stands between two calls. Phase 0: no run is open. 1: the solid part is asked for. 2: a round is. Any other number is no run's. The sharpening is as
+ * in its goal. */
 typedef struct {
     uint32_t phase;
     size_t elements;
     size_t entries;
     double fraction;
-    bool sharpen;
+    uint32_t sharpen;
     size_t max_iterations;
     size_t rounds;
     size_t stage;
@@ -136,19 +152,25 @@ typedef struct {
     double compliance;
 } SokdribRunState;
 
+/* What a run is to reach: the share of the volume, the filter's radius, the sharpening, and the rounds allowed. Sharpening 0: off. 1: early. 2: full. Any other number is
+ * no goal's. */
 typedef struct {
     double fraction;
     double radius;
-    bool sharpen;
+    uint32_t sharpen;
     size_t max_iterations;
 } SokdribRunGoal;
 
+/* What a call returns. Reply 0: a refusal and its number. 1: the solid part is asked for. 2: a round is, and its number. 3: a stop, and its number: 0
+ * Settled, 1 LevelledOff, 2 Limit, 3 Budget, 4 Stopped. */
 typedef struct {
     SokdribRunState state;
     uint32_t reply;
     size_t number;
 } SokdribRunReturned;
 
+/* What an answer says beside the energies. Said 0: the solver gave them. 1: it failed. Any other number: it stopped. Then whether the run is to stop, and the
+ * milliseconds elapsed and allowed. */
 typedef struct {
     uint32_t said;
     bool flag;
@@ -156,6 +178,7 @@ typedef struct {
     uint64_t allowed;
 } SokdribRunHeard;
 
+/* A round's record. */
 typedef struct {
     size_t number;
     double compliance;
@@ -171,12 +194,34 @@ typedef struct {
     double greatest;
 } SokdribRunRecord;
 
+/* What an answer returns, with the record that is to be put at a place of the history: past its end where there is none. */
 typedef struct {
     SokdribRunReturned returned;
     size_t at;
     SokdribRunRecord entry;
 } SokdribRunStep;
 
+/* What goes by value from call to call: the jobs' numbers stand at their places, and zeros past them. */
+typedef struct {
+    uint32_t jobs;
+    uint32_t share[16];
+    uint32_t limit[16];
+    uint32_t granted[16];
+} SokdribShift;
+
+typedef struct {
+    uint32_t refused;
+    SokdribShift shift;
+} SokdribShiftBegun;
+
+typedef struct {
+    uint32_t refused;
+    uint32_t job;
+    SokdribShift shift;
+} SokdribShiftGrant;
+
+/* How an update ended, or the number of a refusal and zeros. Ending 0: met, with the kept volume first. 1: cramped, with the lower and the
+ * upper rate of its bracket. 2: spent, with the kept volume first. */
 typedef struct {
     uint32_t refused;
     uint32_t ending;
@@ -201,6 +246,9 @@ _Static_assert(sizeof(SokdribRunReturned) == 112, "SokdribRunReturned");
 _Static_assert(sizeof(SokdribRunHeard) == 24, "SokdribRunHeard");
 _Static_assert(sizeof(SokdribRunRecord) == 96, "SokdribRunRecord");
 _Static_assert(sizeof(SokdribRunStep) == 216, "SokdribRunStep");
+_Static_assert(sizeof(SokdribShift) == 196, "SokdribShift");
+_Static_assert(sizeof(SokdribShiftBegun) == 200, "SokdribShiftBegun");
+_Static_assert(sizeof(SokdribShiftGrant) == 204, "SokdribShiftGrant");
 _Static_assert(sizeof(SokdribUpdate) == 32, "SokdribUpdate");
 #endif
 
@@ -685,6 +733,12 @@ SokdribRunStep sokdrib_answer(
     double *dv,
     size_t dv_len
 );
+
+/* A shift of up to sixteen jobs, of each its share and its limit; 30 for more than sixteen or none, and for a share or a limit out of range. */
+SokdribShiftBegun sokdrib_shift_begin(const uint32_t (*jobs)[2], size_t jobs_len);
+
+/* The next question, to one of the jobs named: the job, and the shift for the next call. 20, 30 and 31 leave the shift as it was lent. */
+SokdribShiftGrant sokdrib_shift_grant(SokdribShift shift, const uint32_t *named, size_t named_len);
 
 /* One update of the design x, from the slopes dc of the work and dv of the volume: each value moved by at most m, the rate found at which the
  * volume kept is within tolerance of target. The rule and its value are those of sokdrib_kept, with dv for the slope of the volume. design is

@@ -13,6 +13,7 @@ pub struct Vec3 {
 }
 const _: () = assert!(size_of::<Vec3>() == 24 && align_of::<Vec3>() == 8);
 
+/// A plane: a point on it and its normal, which need not be of unit length here.
 #[repr(C)]
 #[derive(Clone, Copy, Debug, Default, PartialEq)]
 pub struct Mirror {
@@ -29,6 +30,7 @@ pub struct LevelNumbers {
 }
 const _: () = assert!(size_of::<LevelNumbers>() == 8 && align_of::<LevelNumbers>() == 4);
 
+/// The counts of a mesh; or the refusal, with no counts.
 #[repr(C)]
 #[derive(Clone, Copy, Debug, Default, PartialEq)]
 pub struct Made {
@@ -39,6 +41,7 @@ pub struct Made {
 }
 const _: () = assert!(size_of::<Made>() == 16 && align_of::<Made>() == 4);
 
+/// How far a boundary is from its image, or the number of a refusal and 0.
 #[repr(C)]
 #[derive(Clone, Copy, Debug, Default, PartialEq)]
 pub struct Asymmetry {
@@ -47,6 +50,8 @@ pub struct Asymmetry {
 }
 const _: () = assert!(size_of::<Asymmetry>() == 16 && align_of::<Asymmetry>() == 8);
 
+/// How far points reach to each side of a plane, where they are off its middle. Where they are about even, where there are none, and at a refusal, off is
+/// false and the reaches are 0.
 #[repr(C)]
 #[derive(Clone, Copy, Debug, Default, PartialEq)]
 pub struct OffCentre {
@@ -57,6 +62,7 @@ pub struct OffCentre {
 }
 const _: () = assert!(size_of::<OffCentre>() == 24 && align_of::<OffCentre>() == 8);
 
+/// What a run starts with, or the number of a refusal and zeros.
 #[repr(C)]
 #[derive(Clone, Copy, Debug, Default, PartialEq)]
 pub struct Start {
@@ -77,6 +83,7 @@ pub struct Projected {
 }
 const _: () = assert!(size_of::<Projected>() == 16 && align_of::<Projected>() == 8);
 
+/// The volume that a design keeps, or the number of a refusal and 0.
 #[repr(C)]
 #[derive(Clone, Copy, Debug, Default, PartialEq)]
 pub struct Kept {
@@ -85,6 +92,8 @@ pub struct Kept {
 }
 const _: () = assert!(size_of::<Kept>() == 16 && align_of::<Kept>() == 8);
 
+/// A run as it stands between two calls. Phase 0: no run is open. 1: the solid part is asked for. 2: a round is. Any other number is no run's. The sharpening is as
+/// in its goal.
 #[repr(C)]
 #[derive(Clone, Copy, Debug, Default, PartialEq)]
 pub struct RunState {
@@ -92,7 +101,7 @@ pub struct RunState {
     pub elements: usize,
     pub entries: usize,
     pub fraction: f64,
-    pub sharpen: bool,
+    pub sharpen: u32,
     pub max_iterations: usize,
     pub rounds: usize,
     pub stage: usize,
@@ -103,16 +112,20 @@ pub struct RunState {
 }
 const _: () = assert!(size_of::<RunState>() == 96 && align_of::<RunState>() == 8);
 
+/// What a run is to reach: the share of the volume, the filter's radius, the sharpening, and the rounds allowed. Sharpening 0: off. 1: early. 2: full. Any other number is
+/// no goal's.
 #[repr(C)]
 #[derive(Clone, Copy, Debug, Default, PartialEq)]
 pub struct RunGoal {
     pub fraction: f64,
     pub radius: f64,
-    pub sharpen: bool,
+    pub sharpen: u32,
     pub max_iterations: usize,
 }
 const _: () = assert!(size_of::<RunGoal>() == 32 && align_of::<RunGoal>() == 8);
 
+/// What a call returns. Reply 0: a refusal and its number. 1: the solid part is asked for. 2: a round is, and its number. 3: a stop, and its number: 0
+/// Settled, 1 LevelledOff, 2 Limit, 3 Budget, 4 Stopped.
 #[repr(C)]
 #[derive(Clone, Copy, Debug, Default, PartialEq)]
 pub struct RunReturned {
@@ -122,6 +135,8 @@ pub struct RunReturned {
 }
 const _: () = assert!(size_of::<RunReturned>() == 112 && align_of::<RunReturned>() == 8);
 
+/// What an answer says beside the energies. Said 0: the solver gave them. 1: it failed. Any other number: it stopped. Then whether the run is to stop, and the
+/// milliseconds elapsed and allowed.
 #[repr(C)]
 #[derive(Clone, Copy, Debug, Default, PartialEq)]
 pub struct RunHeard {
@@ -132,6 +147,7 @@ pub struct RunHeard {
 }
 const _: () = assert!(size_of::<RunHeard>() == 24 && align_of::<RunHeard>() == 8);
 
+/// A round's record.
 #[repr(C)]
 #[derive(Clone, Copy, Debug, Default, PartialEq)]
 pub struct RunRecord {
@@ -150,6 +166,7 @@ pub struct RunRecord {
 }
 const _: () = assert!(size_of::<RunRecord>() == 96 && align_of::<RunRecord>() == 8);
 
+/// What an answer returns, with the record that is to be put at a place of the history: past its end where there is none.
 #[repr(C)]
 #[derive(Clone, Copy, Debug, Default, PartialEq)]
 pub struct RunStep {
@@ -159,6 +176,36 @@ pub struct RunStep {
 }
 const _: () = assert!(size_of::<RunStep>() == 216 && align_of::<RunStep>() == 8);
 
+/// What goes by value from call to call: the jobs' numbers stand at their places, and zeros past them.
+#[repr(C)]
+#[derive(Clone, Copy, Debug, Default, PartialEq)]
+pub struct Shift {
+    pub jobs: u32,
+    pub share: [u32; 16],
+    pub limit: [u32; 16],
+    pub granted: [u32; 16],
+}
+const _: () = assert!(size_of::<Shift>() == 196 && align_of::<Shift>() == 4);
+
+#[repr(C)]
+#[derive(Clone, Copy, Debug, Default, PartialEq)]
+pub struct ShiftBegun {
+    pub refused: u32,
+    pub shift: Shift,
+}
+const _: () = assert!(size_of::<ShiftBegun>() == 200 && align_of::<ShiftBegun>() == 4);
+
+#[repr(C)]
+#[derive(Clone, Copy, Debug, Default, PartialEq)]
+pub struct ShiftGrant {
+    pub refused: u32,
+    pub job: u32,
+    pub shift: Shift,
+}
+const _: () = assert!(size_of::<ShiftGrant>() == 204 && align_of::<ShiftGrant>() == 4);
+
+/// How an update ended, or the number of a refusal and zeros. Ending 0: met, with the kept volume first. 1: cramped, with the lower and the
+/// upper rate of its bracket. 2: spent, with the kept volume first.
 #[repr(C)]
 #[derive(Clone, Copy, Debug, Default, PartialEq)]
 pub struct Update {
@@ -171,7 +218,7 @@ pub struct Update {
 const _: () = assert!(size_of::<Update>() == 32 && align_of::<Update>() == 8);
 
 mod library {
-    use super::{Asymmetry, Kept, LevelNumbers, Made, Mirror, OffCentre, Projected, RunGoal, RunHeard, RunReturned, RunState, RunStep, Start, Update, Vec3};
+    use super::{Asymmetry, Kept, LevelNumbers, Made, Mirror, OffCentre, Projected, RunGoal, RunHeard, RunReturned, RunState, RunStep, Shift, ShiftBegun, ShiftGrant, Start, Update, Vec3};
 
     unsafe extern "C" {
         /// The size of x.
@@ -550,6 +597,8 @@ mod library {
             dv: *mut f64,
             dv_len: usize,
         ) -> RunStep;
+        pub unsafe fn sokdrib_shift_begin(jobs: *const [u32; 2], jobs_len: usize) -> ShiftBegun;
+        pub unsafe fn sokdrib_shift_grant(shift: Shift, named: *const u32, named_len: usize) -> ShiftGrant;
         pub unsafe fn sokdrib_update(
             x: *const f64,
             x_len: usize,
@@ -1067,6 +1116,18 @@ pub fn sokdrib_answer(
         dc.as_mut_ptr(), dc.len(),
         dv.as_mut_ptr(), dv.len()
     ) }
+}
+
+/// A shift of up to sixteen jobs, of each its share and its limit; 30 for more than sixteen or none, and for a share or a limit out of range.
+pub fn sokdrib_shift_begin(jobs: &[[u32; 2]]) -> ShiftBegun {
+    // SAFETY: see above.
+    unsafe { library::sokdrib_shift_begin(jobs.as_ptr(), jobs.len()) }
+}
+
+/// The next question, to one of the jobs named: the job, and the shift for the next call. 20, 30 and 31 leave the shift as it was lent.
+pub fn sokdrib_shift_grant(shift: Shift, named: &[u32]) -> ShiftGrant {
+    // SAFETY: see above.
+    unsafe { library::sokdrib_shift_grant(shift, named.as_ptr(), named.len()) }
 }
 
 /// One update of the design x, from the slopes dc of the work and dv of the volume: each value moved by at most m, the rate found at which the
