@@ -87,7 +87,9 @@ typedef struct {
 } SokdribMirror;
 
 typedef struct {
+    /* 0 or 29 */
     uint32_t refused;
+    /* 0 where it is refused */
     uint16_t level;
 } SokdribLevelNumbers;
 
@@ -187,9 +189,11 @@ typedef struct {
     double sharpness;
     double grey;
     size_t passes;
+    /* how the update ended, by the numbers of `Update` */
     uint32_t ending;
     double first;
     double second;
+    /* the least and the greatest design value of a free element after it */
     double least;
     double greatest;
 } SokdribRunRecord;
@@ -203,20 +207,28 @@ typedef struct {
 
 /* What goes by value from call to call: the jobs' numbers stand at their places, and zeros past them. */
 typedef struct {
+    /* 1 to 16 */
     uint32_t jobs;
     uint32_t share[16];
+    /* the most questions that each may be granted */
     uint32_t limit[16];
+    /* the questions that each was granted */
     uint32_t granted[16];
 } SokdribShift;
 
 typedef struct {
+    /* 0 or 30 */
     uint32_t refused;
+    /* zeros where it is refused */
     SokdribShift shift;
 } SokdribShiftBegun;
 
 typedef struct {
+    /* 0, or 20, 30, 31 */
     uint32_t refused;
+    /* the job that the question goes to; 0 where it is refused */
     uint32_t job;
+    /* as it was lent where it is refused */
     SokdribShift shift;
 } SokdribShiftGrant;
 
