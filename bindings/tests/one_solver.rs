@@ -1,6 +1,6 @@
 //! Several small runs of different shapes share one solver to their ends, and each has the bits of running alone.
 use sokdrib::filter::Work;
-use sokdrib::run::{Answer, Goal, Iteration, Lists, Part, Reply, Said, Scratch, State, answer, open};
+use sokdrib::run::{Answer, Goal, Iteration, Lists, Part, Reply, Said, Scratch, Sharpening, State, answer, open};
 use sokdrib::shift;
 use sokdrib::topo::{level_of, modulus};
 
@@ -89,10 +89,14 @@ fn ended(reply: Reply) -> bool {
 
 #[test]
 fn runs_that_share_one_solver() {
-    let goal = Goal { fraction: 0.5, radius: 1.5, sharpen: false, max_iterations: 40 };
+    let goal = Goal { fraction: 0.5, radius: 1.5, sharpen: Sharpening::Off, max_iterations: 40 };
     let fresh = [
         Job::new([9, 1, 1], &[], goal),
-        Job::new([4, 5, 1], &[[1.5, 0.0, 0.0, 1.0, 0.0, 0.0]], Goal { fraction: 0.4, sharpen: true, max_iterations: 130, ..goal }),
+        Job::new(
+            [4, 5, 1],
+            &[[1.5, 0.0, 0.0, 1.0, 0.0, 0.0]],
+            Goal { fraction: 0.4, sharpen: Sharpening::Early, max_iterations: 130, ..goal },
+        ),
         Job::new([3, 3, 3], &[], Goal { fraction: 0.7, radius: 2.5, ..goal }),
         Job::new([2, 2, 1], &[], Goal { max_iterations: 3, ..goal }),
     ];
