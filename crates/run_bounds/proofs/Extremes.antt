@@ -18,7 +18,7 @@ use Rattle.ieee.proofs.Bounds.{max-either, min-either, max-left, max-right, min
 use Rattle.ieee_lanes.proofs.Order.{number-left}
 use Rattle.oc_record.specs.Record.{leastOf, greatestOf}
 use Rattle.oc_goal.specs.Goal.{xMin}
-use Rattle.run_bounds.specs.Extremes.{Free, SomeFree, Reached, Extremes}
+use Rattle.run_bounds.specs.Extremes.{FreeElement, SomeFree, Reached, Extremes}
 
 -- k below n + 1 is below n, or n
 last-or : (P : ℕ → Type 0) (n k : ℕ) → k < suc n → (k < n → P k) → P n → P k
@@ -142,7 +142,7 @@ zero-under = tt
 
 -- ---- of a design
 module _ (passive : List Bool) (y : List Float) (long : length y ≡ length passive) (some : SomeFree passive (length y))
-    (all : (k : ℕ) → Free passive (length y) k → T (le xMin (getD y k nan)) × T (le (getD y k nan) one64)) where
+    (all : (k : ℕ) → FreeElement passive (length y) k → T (le xMin (getD y k nan)) × T (le (getD y k nan) one64)) where
   abbrev held : ℕ → Bool
   held k = getD passive k false
 
