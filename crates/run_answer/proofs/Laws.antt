@@ -80,8 +80,8 @@ asks-later s p st ne co x q sp x′ sp′ n e f =
 untouched : (n : ℕ) (l : List Float) → Free n l l
 untouched n l = (refl, refl)
 
-again : {n : ℕ} {a b c : List Float} → Free n a b → Free n b c → Free n a c
-again f g = (g .0 ∙ f .0, g .1 ∙ f .1)
+again : (n : ℕ) (a b c : List Float) → Free n a b → Free n b c → Free n a c
+again n a b c f g = (g .0 ∙ f .0, g .1 ∙ f .1)
 
 module _ (s : State) (a : Arguments) (room : ℕ) (l : Core) (w : Work) (v : Verdict) (e : v ≡ verdictIn s a room l w) where
   -- an answer by its verdict
@@ -132,7 +132,7 @@ module _ (s : State) (a : Arguments) (room : ℕ) (l : Core) (w : Work) (v : Ver
         reply = Round 1;
         lists = record { volumes = l .volumes; passive = l .passive; starts = l .starts; near = l .near; coef = l .coef; design = l .design; density = b .density i; last = l .last; history = h };
       })
-      (record { free = untouched _ _; slope = b .slope; spare = untouched _ _; dc = untouched _ _; dv = untouched _ _ })
+      (record { free = untouched (s .setting .elements) (w .free); slope = b .slope; spare = untouched (s .setting .elements) (w .spare); dc = untouched (s .setting .elements) (w .dc); dv = untouched (s .setting .elements) (w .dv) })
 
   -- ---- a round solved
   pub solves-law : (r : Step) (o : Core) (w′ : Work) → v ≡ Solves → Followed s a l w r o w′ → CoreAnswered s a room l w r o w′
@@ -184,5 +184,5 @@ module _ (s : State) (a : Arguments) (l : Core) (w : Work) where
           reply = Round (en i);
           lists = record { volumes = l .volumes; passive = l .passive; starts = l .starts; near = l .near; coef = l .coef; design = o .design-is i; density = q′ i; last = o .last-is i; history = set h (s .progress .rounds) (o .entry i) };
         }) ∙ sym (by-course entry t Onward h (o .entry) g d);
-        work = record { free = o .work .free; slope = again (o .work .slope) (q .1); spare = o .work .spare; dc = o .work .dc; dv = o .work .dv };
+        work = record { free = o .work .free; slope = again (s .setting .elements) (w .slope) (w′ .slope) slope (o .work .slope) (q .1); spare = o .work .spare; dc = o .work .dc; dv = o .work .dv };
       }
