@@ -5,7 +5,7 @@ use std::time::Duration;
 
 use crate::rounds::{BLOCKS, Block, RADIUS, best, grouped, line};
 use sokdrib::filter::Work;
-use sokdrib::run::{self, Answer, Iteration, Lists, Part, Reply, Said, Scratch, State};
+use sokdrib::run::{self, Answer, Iteration, Lists, Part, Reply, Said, Scratch, Sharpening, State};
 use sokdrib::topo as ours;
 use tenon::topo::{self, Design, Filter, Goal, Stiffness};
 
@@ -24,6 +24,7 @@ fn by_library(block: &Block, middles: &[[f64; 3]], entries: usize, sharpen: bool
     let Design { volumes, passive, .. } = &block.design;
     let n = volumes.len();
     let part = Part { volumes, centroids: middles, passive, mirrors: &[] };
+    let sharpen = if sharpen { Sharpening::Early } else { Sharpening::Off };
     let goal = run::Goal { fraction: 0.4, radius: RADIUS, sharpen, max_iterations: ROUNDS };
     let (mut starts, mut near, mut coef) = (vec![0; n + 1], vec![0; entries], vec![0.0; entries]);
     let [mut design, mut density, mut last, mut energies] = std::array::from_fn(|_| vec![0.0; n]);

@@ -44,7 +44,8 @@
  *   17  an energy not finite. Left: over. By: answer.
  *   18  the solver failed. Left: over. By: answer.
  *   19  the solid part's work not above 0. Left: over. By: answer.
- *   20  call out of turn, or a state that no run has ("A run", docs/API.md). Left: kept. By: open, answer.
+ *   20  call out of turn, a state that no run has ("A run", docs/API.md), or, across C, a sharpening above 2 in the
+ *       goal or the state. Left: kept. By: open, answer.
  *   21  a boundary triangle names a node that is not there. Left: kept. By: passive, asymmetry.
  *   22  the job strip is malformed. Left: kept. By: the calls of strip_stream and strip_read, program shape: none of
  *       C's.
@@ -73,6 +74,7 @@ typedef struct {
     double z;
 } SokdribVec3;
 
+/* A plane: a point on it and its normal, which need not be of unit length here. */
 typedef struct {
     SokdribVec3 point;
     SokdribVec3 normal;
@@ -83,6 +85,7 @@ typedef struct {
     uint16_t level;
 } SokdribLevelNumbers;
 
+/* The counts of a mesh; or the refusal, with no counts. */
 typedef struct {
     uint32_t refused;
     uint32_t nodes;
@@ -90,11 +93,14 @@ typedef struct {
     uint32_t tris;
 } SokdribMade;
 
+/* How far a boundary is from its image, or the number of a refusal and 0. */
 typedef struct {
     uint32_t refused;
     double distance;
 } SokdribAsymmetry;
 
+/* How far points reach to each side of a plane, where they are off its middle. Where they are about even, where there are none, and at a refusal, off is
+ * false and the reaches are 0. */
 typedef struct {
     uint32_t refused;
     bool off;
@@ -102,6 +108,7 @@ typedef struct {
     double behind;
 } SokdribOffCentre;
 
+/* What a run starts with, or the number of a refusal and zeros. */
 typedef struct {
     uint32_t refused;
     double total;
@@ -116,17 +123,20 @@ typedef struct {
     double slope;
 } SokdribProjected;
 
+/* The volume that a design keeps, or the number of a refusal and 0. */
 typedef struct {
     uint32_t refused;
     double volume;
 } SokdribKept;
 
+/* A run as it stands between two calls. Phase 0: no run is open. 1: the solid part is asked for. 2: a round is. Any other number is no run's. The sharpening is as
+ * in its goal. */
 typedef struct {
     uint32_t phase;
     size_t elements;
     size_t entries;
     double fraction;
-    bool sharpen;
+    uint32_t sharpen;
     size_t max_iterations;
     size_t rounds;
     size_t stage;
@@ -136,19 +146,25 @@ typedef struct {
     double compliance;
 } SokdribRunState;
 
+/* What a run is to reach: the share of the volume, the filter's radius, the sharpening, and the rounds allowed. Sharpening 0: off. 1: early. 2: full. Any other number is
+ * no goal's. */
 typedef struct {
     double fraction;
     double radius;
-    bool sharpen;
+    uint32_t sharpen;
     size_t max_iterations;
 } SokdribRunGoal;
 
+/* What a call returns. Reply 0: a refusal and its number. 1: the solid part is asked for. 2: a round is, and its number. 3: a stop, and its number: 0
+ * Settled, 1 LevelledOff, 2 Limit, 3 Budget, 4 Stopped. */
 typedef struct {
     SokdribRunState state;
     uint32_t reply;
     size_t number;
 } SokdribRunReturned;
 
+/* What an answer says beside the energies. Said 0: the solver gave them. 1: it failed. Any other number: it stopped. Then whether the run is to stop, and the
+ * milliseconds elapsed and allowed. */
 typedef struct {
     uint32_t said;
     bool flag;
@@ -156,6 +172,7 @@ typedef struct {
     uint64_t allowed;
 } SokdribRunHeard;
 
+/* A round's record. */
 typedef struct {
     size_t number;
     double compliance;
@@ -166,12 +183,15 @@ typedef struct {
     size_t passes;
 } SokdribRunRecord;
 
+/* What an answer returns, with the record that is to be put at a place of the history: past its end where there is none. */
 typedef struct {
     SokdribRunReturned returned;
     size_t at;
     SokdribRunRecord entry;
 } SokdribRunStep;
 
+/* How an update ended, or the number of a refusal and zeros. Ending 0: met, with the kept volume first. 1: cramped, with the lower and the
+ * upper rate of its bracket. 2: spent, with the kept volume first. */
 typedef struct {
     uint32_t refused;
     uint32_t ending;
@@ -600,7 +620,7 @@ double sokdrib_grey(const double *density, size_t density_len, const double *fre
 /* Opens a run on a state with none open: the solid part is asked for, or the refusal's number is told. room is how many records the history has room
  * for; the opening writes none. 1 to 12, 20, and 14 before the first row, leave all lists as before; 13 and 14 at a row leave the filter's lists and the
  * working lists (cell and those after it) zero throughout, and 15, by the flag, the finished filter and the working lists zero. The fresh state is all zero; a
- * phase above 2 is refused with 20. */
+ * phase above 2, and a sharpening above 2 in the state or the goal, is refused with 20. */
 SokdribRunReturned sokdrib_open(
     size_t room,
     SokdribRunState state,
@@ -646,7 +666,7 @@ SokdribRunReturned sokdrib_open(
 
 /* The solver's answer to the last question: what is heard of it, and the energies. The filter's lists, the design and both densities are those that the last call left. The record that
  * is told is to be put at its place of the history, which has room for so many records; where the place is past that there is none. free and the
- * lists after it are for the call's own use. A phase above 2 is refused with 20. */
+ * lists after it are for the call's own use. A phase or a sharpening above 2 is refused with 20. */
 SokdribRunStep sokdrib_answer(
     size_t room,
     SokdribRunState state,

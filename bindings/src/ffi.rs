@@ -13,6 +13,7 @@ pub struct Vec3 {
 }
 const _: () = assert!(size_of::<Vec3>() == 24 && align_of::<Vec3>() == 8);
 
+/// A plane: a point on it and its normal, which need not be of unit length here.
 #[repr(C)]
 #[derive(Clone, Copy, Debug, Default, PartialEq)]
 pub struct Mirror {
@@ -29,6 +30,7 @@ pub struct LevelNumbers {
 }
 const _: () = assert!(size_of::<LevelNumbers>() == 8 && align_of::<LevelNumbers>() == 4);
 
+/// The counts of a mesh; or the refusal, with no counts.
 #[repr(C)]
 #[derive(Clone, Copy, Debug, Default, PartialEq)]
 pub struct Made {
@@ -39,6 +41,7 @@ pub struct Made {
 }
 const _: () = assert!(size_of::<Made>() == 16 && align_of::<Made>() == 4);
 
+/// How far a boundary is from its image, or the number of a refusal and 0.
 #[repr(C)]
 #[derive(Clone, Copy, Debug, Default, PartialEq)]
 pub struct Asymmetry {
@@ -47,6 +50,8 @@ pub struct Asymmetry {
 }
 const _: () = assert!(size_of::<Asymmetry>() == 16 && align_of::<Asymmetry>() == 8);
 
+/// How far points reach to each side of a plane, where they are off its middle. Where they are about even, where there are none, and at a refusal, off is
+/// false and the reaches are 0.
 #[repr(C)]
 #[derive(Clone, Copy, Debug, Default, PartialEq)]
 pub struct OffCentre {
@@ -57,6 +62,7 @@ pub struct OffCentre {
 }
 const _: () = assert!(size_of::<OffCentre>() == 24 && align_of::<OffCentre>() == 8);
 
+/// What a run starts with, or the number of a refusal and zeros.
 #[repr(C)]
 #[derive(Clone, Copy, Debug, Default, PartialEq)]
 pub struct Start {
@@ -77,6 +83,7 @@ pub struct Projected {
 }
 const _: () = assert!(size_of::<Projected>() == 16 && align_of::<Projected>() == 8);
 
+/// The volume that a design keeps, or the number of a refusal and 0.
 #[repr(C)]
 #[derive(Clone, Copy, Debug, Default, PartialEq)]
 pub struct Kept {
@@ -85,6 +92,8 @@ pub struct Kept {
 }
 const _: () = assert!(size_of::<Kept>() == 16 && align_of::<Kept>() == 8);
 
+/// A run as it stands between two calls. Phase 0: no run is open. 1: the solid part is asked for. 2: a round is. Any other number is no run's. The sharpening is as
+/// in its goal.
 #[repr(C)]
 #[derive(Clone, Copy, Debug, Default, PartialEq)]
 pub struct RunState {
@@ -92,7 +101,7 @@ pub struct RunState {
     pub elements: usize,
     pub entries: usize,
     pub fraction: f64,
-    pub sharpen: bool,
+    pub sharpen: u32,
     pub max_iterations: usize,
     pub rounds: usize,
     pub stage: usize,
@@ -103,16 +112,20 @@ pub struct RunState {
 }
 const _: () = assert!(size_of::<RunState>() == 96 && align_of::<RunState>() == 8);
 
+/// What a run is to reach: the share of the volume, the filter's radius, the sharpening, and the rounds allowed. Sharpening 0: off. 1: early. 2: full. Any other number is
+/// no goal's.
 #[repr(C)]
 #[derive(Clone, Copy, Debug, Default, PartialEq)]
 pub struct RunGoal {
     pub fraction: f64,
     pub radius: f64,
-    pub sharpen: bool,
+    pub sharpen: u32,
     pub max_iterations: usize,
 }
 const _: () = assert!(size_of::<RunGoal>() == 32 && align_of::<RunGoal>() == 8);
 
+/// What a call returns. Reply 0: a refusal and its number. 1: the solid part is asked for. 2: a round is, and its number. 3: a stop, and its number: 0
+/// Settled, 1 LevelledOff, 2 Limit, 3 Budget, 4 Stopped.
 #[repr(C)]
 #[derive(Clone, Copy, Debug, Default, PartialEq)]
 pub struct RunReturned {
@@ -122,6 +135,8 @@ pub struct RunReturned {
 }
 const _: () = assert!(size_of::<RunReturned>() == 112 && align_of::<RunReturned>() == 8);
 
+/// What an answer says beside the energies. Said 0: the solver gave them. 1: it failed. Any other number: it stopped. Then whether the run is to stop, and the
+/// milliseconds elapsed and allowed.
 #[repr(C)]
 #[derive(Clone, Copy, Debug, Default, PartialEq)]
 pub struct RunHeard {
@@ -132,6 +147,7 @@ pub struct RunHeard {
 }
 const _: () = assert!(size_of::<RunHeard>() == 24 && align_of::<RunHeard>() == 8);
 
+/// A round's record.
 #[repr(C)]
 #[derive(Clone, Copy, Debug, Default, PartialEq)]
 pub struct RunRecord {
@@ -145,6 +161,7 @@ pub struct RunRecord {
 }
 const _: () = assert!(size_of::<RunRecord>() == 56 && align_of::<RunRecord>() == 8);
 
+/// What an answer returns, with the record that is to be put at a place of the history: past its end where there is none.
 #[repr(C)]
 #[derive(Clone, Copy, Debug, Default, PartialEq)]
 pub struct RunStep {
@@ -154,6 +171,8 @@ pub struct RunStep {
 }
 const _: () = assert!(size_of::<RunStep>() == 176 && align_of::<RunStep>() == 8);
 
+/// How an update ended, or the number of a refusal and zeros. Ending 0: met, with the kept volume first. 1: cramped, with the lower and the
+/// upper rate of its bracket. 2: spent, with the kept volume first.
 #[repr(C)]
 #[derive(Clone, Copy, Debug, Default, PartialEq)]
 pub struct Update {
@@ -966,7 +985,7 @@ pub fn sokdrib_grey(density: &[f64], free: &[f64], total: f64) -> f64 {
 /// Opens a run on a state with none open: the solid part is asked for, or the refusal's number is told. room is how many records the history has room
 /// for; the opening writes none. 1 to 12, 20, and 14 before the first row, leave all lists as before; 13 and 14 at a row leave the filter's lists and the
 /// working lists (cell and those after it) zero throughout, and 15, by the flag, the finished filter and the working lists zero. The fresh state is all zero; a
-/// phase above 2 is refused with 20.
+/// phase above 2, and a sharpening above 2 in the state or the goal, is refused with 20.
 #[allow(clippy::too_many_arguments)]
 pub fn sokdrib_open(
     room: usize,
@@ -1021,7 +1040,7 @@ pub fn sokdrib_open(
 
 /// The solver's answer to the last question: what is heard of it, and the energies. The filter's lists, the design and both densities are those that the last call left. The record that
 /// is told is to be put at its place of the history, which has room for so many records; where the place is past that there is none. free and the
-/// lists after it are for the call's own use. A phase above 2 is refused with 20.
+/// lists after it are for the call's own use. A phase or a sharpening above 2 is refused with 20.
 #[allow(clippy::too_many_arguments)]
 pub fn sokdrib_answer(
     room: usize,

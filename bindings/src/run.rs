@@ -1,10 +1,38 @@
 //! A run: the loop of `optimize` as questions and answers. It is opened, and then each question is answered, until it stops.
 //!
 //! State and lists are the caller's, and each call is to get them as the last one left them. [`State::default`] is the fresh state, with no run open.
-//! A state whose phase is above 2 is no run's: both calls refuse it with 20 and leave it and all lists as before.
+//! A state whose phase or choice of sharpening is above 2 is no run's: both calls refuse it with 20 and leave it and all lists as before.
 use crate::filter::Work;
 use crate::{Refused, ffi};
-pub use ffi::{RunGoal as Goal, RunRecord as Iteration, RunState as State};
+pub use ffi::{RunRecord as Iteration, RunState as State};
+
+/// Whether the densities are sharpened, at steepness 1, 2, 4, 8 and then 16 to the end, and when a run moves on from each below 16. The numbers are
+/// those of [`State`]'s field `sharpen`.
+#[derive(Clone, Copy, Debug, Default, PartialEq, Eq)]
+pub enum Sharpening {
+    #[default]
+    Off = 0,
+    /// On after 20 rounds, or a change below 0.01: the Rust's way.
+    Early = 1,
+    /// On after exactly 20 rounds, however small the change.
+    Full = 2,
+}
+
+/// What is asked for: the share of the volume to keep, the filter's radius, the sharpening, and the most rounds.
+#[derive(Clone, Copy, Debug, Default, PartialEq)]
+pub struct Goal {
+    pub fraction: f64,
+    pub radius: f64,
+    pub sharpen: Sharpening,
+    pub max_iterations: usize,
+}
+
+impl From<Goal> for ffi::RunGoal {
+    fn from(goal: Goal) -> ffi::RunGoal {
+        let Goal { fraction, radius, sharpen, max_iterations } = goal;
+        ffi::RunGoal { fraction, radius, sharpen: sharpen as u32, max_iterations }
+    }
+}
 
 /// Why a run stopped.
 #[derive(Clone, Copy, Debug, PartialEq, Eq)]
@@ -79,7 +107,7 @@ pub fn open(state: &mut State, part: Part<'_>, goal: Goal, flag: bool, lists: Li
     let returned = ffi::sokdrib_open(
         history.len(),
         *state,
-        goal,
+        goal.into(),
         flag,
         part.volumes,
         part.centroids,

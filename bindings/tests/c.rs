@@ -1,7 +1,7 @@
 //! The generated header serves C: programs over it compile without a warning, link with the library and run.
 use sokdrib::Refused;
 use sokdrib::filter::Work;
-use sokdrib::run::{Answer, Goal, Iteration, Lists, Part, Reply, Said, Scratch, State, answer, open};
+use sokdrib::run::{Answer, Goal, Iteration, Lists, Part, Reply, Said, Scratch, Sharpening, State, answer, open};
 use sokdrib::topo::{level_of, modulus};
 use std::path::{Path, PathBuf};
 use std::process::Command;
@@ -83,22 +83,30 @@ fn told(part: Part<'_>, goal: Goal, weights: &[f64]) -> String {
 #[test]
 fn a_c_program_runs_jobs() {
     let worked = Part { volumes: &[1.0, 1.0], centroids: &[[0.0; 3], [10.0, 0.0, 0.0]], passive: &[true, false], mirrors: &[] };
-    let one = Goal { fraction: 0.75, radius: 1.0, sharpen: false, max_iterations: 1 };
+    let one = Goal { fraction: 0.75, radius: 1.0, sharpen: Sharpening::Off, max_iterations: 1 };
     let eight = Part {
         volumes: &[1.0, 1.0, 1.25, 1.25, 0.75, 0.75, 1.0, 1.0],
         centroids: &[0, 1, 2, 3, 4, 5, 6, 7].map(|e| [f64::from(e / 2) + 0.5, f64::from(e % 2) - 0.5, 0.0]),
         passive: &[true, true, false, false, false, false, false, false],
         mirrors: &[[0.0, 0.0, 0.0, 0.0, 1.0, 0.0]],
     };
-    let sharpened = Goal { fraction: 0.5, radius: 1.5, sharpen: true, max_iterations: 60 };
+    let sharpened = Goal { fraction: 0.5, radius: 1.5, sharpen: Sharpening::Early, max_iterations: 60 };
+    let weights = &[4.0, 4.0, 3.0, 2.5, 2.0, 2.0, 0.5, 1.0];
     let texts = [
         told(worked, one, &[1.0, 0.0]),
-        told(eight, sharpened, &[4.0, 4.0, 3.0, 2.5, 2.0, 2.0, 0.5, 1.0]),
+        told(eight, sharpened, weights),
+        told(eight, Goal { sharpen: Sharpening::Full, max_iterations: 85, ..sharpened }, weights),
+        "refused 20\n".into(),
         told(worked, Goal { fraction: 0.1, ..one }, &[1.0, 0.0]),
     ];
     assert_eq!(texts[0], WORKED);
     assert_eq!(texts[1].matches("round").count(), 60);
-    assert_eq!(texts[2], "refused 7\n");
+    // 20 rounds at each steepness below 16, and round 81 the first at 16
+    let steepness = |line: &str| u64::from_str_radix(line.split(' ').nth(5)?, 16).ok().map(f64::from_bits);
+    let course: Vec<f64> = texts[2].lines().filter(|line| line.starts_with("round")).filter_map(steepness).collect();
+    let stages = [1.0, 2.0, 4.0, 8.0, 16.0];
+    assert!(course.len() > 80 && course.iter().enumerate().all(|(k, beta)| *beta == stages[(k / 20).min(4)]), "{course:?}");
+    assert_eq!(texts[4], "refused 7\n");
     let ran = program("run").output().expect("it runs");
     assert!(ran.status.success());
     assert_eq!(String::from_utf8(ran.stdout).expect("it is text"), texts.concat());

@@ -28,6 +28,9 @@ const fn public(file: &'static str, find: &'static str, put: &'static str) -> Ed
 pub const FILES: &[&str] =
     &["faces.rs", "mesh.rs", "problem.rs", "tools.rs", "topo/mod.rs", "topo/filter.rs", "topo/oc.rs", "topo/region.rs"];
 
+/// Files that are compiled once more, and the path of the copy: with the file's edits and then those that name the path.
+pub const AGAIN: &[(&str, &str)] = &[("topo/oc.rs", "topo/full.rs")];
+
 pub const EDITS: &[Edit] = &[
     // Modules that are out of scope, or not among the files.
     replace("topo/mod.rs", "pub mod iso;\n", "", 1),
@@ -84,6 +87,10 @@ pub const EDITS: &[Edit] = &[
     public("topo/oc.rs", "\nfn volume_slope(", "\npub fn volume_slope("),
     public("topo/oc.rs", "\nfn work_slope(", "\npub fn work_slope("),
     public("topo/oc.rs", "\nfn update(", "\npub fn update("),
+    //
+    // CR 13: "moves on from each steepness below 16 after exactly 20 rounds, however small the change": the loop once more, without its early move.
+    replace("topo/mod.rs", "pub mod oc;\n", "pub mod full;\npub mod oc;\n", 1),
+    replace("topo/full.rs", " || change < SETTLED", "", 1),
 ];
 
 /// The text of `file` after its edits in turn, or what is wrong with it.

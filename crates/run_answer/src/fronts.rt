@@ -23,10 +23,13 @@ pub fn ask(
     ensures { λ _. ⌜ (now (density .exit) ≡ overlay (questionAt state stage (now (passive .entry)) (now (starts .entry)) (now (near .entry)) (now (coef .entry)) (now (design .entry))) (now (density .entry)))
         × Free (state .setting .elements) (now (spare .entry)) (now (spare .exit)) ⌝ }
 {
+    let setting = state.setting;
+    let choice = setting.sharpen;
+    let sharpen = topo::sharpens(choice);
     let n = state.setting.elements;
     let e = state.setting.entries;
     run_round::ask(
-        state.setting.sharpen,
+        sharpen,
         stage,
         &starts[..n + 1usize],
         &near[..e],
@@ -67,6 +70,9 @@ pub fn solve(
         r (now (design .exit)) (now (last .exit))
         (record { free = now (free .exit); slope = now (slope .exit); spare = now (spare .exit); dc = now (dc .exit); dv = now (dv .exit) }) ⌝ }
 {
+    let setting = state.setting;
+    let choice = setting.sharpen;
+    let sharpen = topo::sharpens(choice);
     let n = state.setting.elements;
     let e = state.setting.entries;
     update_design::copy(&density[..n], &mut last[..n]);
@@ -74,7 +80,7 @@ pub fn solve(
         state.progress.rounds + 1usize,
         state.progress.stage,
         state.setting.fraction,
-        state.setting.sharpen,
+        sharpen,
         energies,
         &volumes[..n],
         &passive[..n],

@@ -1,8 +1,9 @@
--- `Checks`: what an opening's tests see to. `Parts`: lists that are lent in part. `Formulas`: lengths and counts of what the formulas make.
+-- `Checks`: what an opening's tests see to. `Parts`: lists that are lent in part. `Formulas`: lengths and counts of what the formulas make. `Full`: full stages.
 pub mod Checks
 pub mod Parts
 pub mod Formulas
 pub mod Counts
+pub mod Full
 pub mod Verdicts
 pub mod Alike
 pub mod Whole

@@ -10,7 +10,9 @@ use lib.Ieee.{Float}
 use Rattle.lists.specs.Lists.{choose, zero64, overlay}
 use Rattle.topo.specs.declared.Goal.{Goal}
 use Rattle.topo.specs.declared.Iteration.{Iteration}
+use Rattle.topo.specs.declared.Sharpening.the-variants.{Off}
 use Rattle.topo.specs.declared.Stop.the-variants.{Stopped}
+use Rattle.topo.specs.Stages.{sharpens, early}
 use Rattle.oc_record.specs.Record.{complianceOf}
 use Rattle.update_rates.specs.Rates.{Search}
 use Rattle.run_plain.specs.declared.Phase.{Phase}
@@ -160,7 +162,7 @@ caseFrom s l =
       near = take (s .setting .entries) (l .near);
       coef = take (s .setting .entries) (l .coef);
       fraction = s .setting .fraction;
-      sharpen = s .setting .sharpen;
+      sharpen = sharpens (s .setting .sharpen);
     }
 
 unfoldable pub checksAt : State → Arguments → Sizes → Checks
@@ -224,7 +226,7 @@ stopsAt s h r =
 
 -- whether the steepness moves on
 unfoldable pub dueAt : State → Iteration → Bool
-dueAt s r = leb 20 (suc (s .progress .«at_stage»)) || small (r .change)
+dueAt s r = leb 20 (suc (s .progress .«at_stage»)) || (early (s .setting .sharpen) && small (r .change))
 
 unfoldable pub stageAfter : State → Iteration → ℕ
 stageAfter s r = choose (sharpest (s .setting .sharpen) (steepAt (s .progress .stage))) (s .progress .stage) (choose (dueAt s r) (suc (s .progress .stage)) (s .progress .stage))
@@ -429,7 +431,7 @@ worldFrom w (c ∷ more) = worldFrom (worldAfter (w .lists) (resultOf w c)) more
 
 -- "the fresh state that docs/ gives"
 unfoldable pub fresh : State
-fresh = record { phase = Idle; setting = record { elements = 0; entries = 0; fraction = zero64; sharpen = false; «max_iterations» = 0 }; progress = unstarted; compliances = noWork }
+fresh = record { phase = Idle; setting = record { elements = 0; entries = 0; fraction = zero64; sharpen = Off; «max_iterations» = 0 }; progress = unstarted; compliances = noWork }
 
 -- what the plain run is fed of a call: of the lists the lengths that are lent
 abbrev pub fed : Lists → Call → Answer

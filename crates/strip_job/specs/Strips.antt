@@ -5,6 +5,7 @@ use lib.Dec.{ltb}
 use lib.Ieee.{ofBits, binary64}
 use Rattle.lists.specs.Lists.{choose}
 use Rattle.topo.specs.declared.Goal.{Goal}
+use Rattle.topo.specs.Stages.{sharpeningOf}
 use Rattle.strip.specs.declared.Job.{Job}
 use Rattle.strip.specs.declared.Answer.{Answer}
 use Rattle.strip.specs.declared.Answer.the-variants.{Read, Refused}
@@ -19,6 +20,6 @@ abbrev pub jobIn : Answer → Job → Job
 jobIn (Refused n) none = none
 jobIn (Read job) none = job
 
--- its numbers are floats from here on
+-- its numbers are floats from here on, and its sharpening one of the three choices
 abbrev pub goalOf : Job → Goal
-goalOf job = record { fraction = ofBits binary64 (job .fraction); radius = ofBits binary64 (job .radius); sharpen = job .sharpen; «max_iterations» = job .«max_iterations» }
+goalOf job = record { fraction = ofBits binary64 (job .fraction); radius = ofBits binary64 (job .radius); sharpen = sharpeningOf (job .sharpen); «max_iterations» = job .«max_iterations» }

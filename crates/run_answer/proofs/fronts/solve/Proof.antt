@@ -1,5 +1,6 @@
 -- `run_answer::fronts::solve` meets its contract: the needed places are lent, and what comes back is laid over. Assumes nothing.
 use mathlib.Core.Path.{_∙_}
+use mathlib.Core.Bool.{Bool}
 use mathlib.Core.List.{List, _++_}
 use Prim.Native.Nat.{ℕ}
 use native.Mathlib.Numerals.{add-one}
@@ -16,7 +17,7 @@ use borrow.Author.Needs.{needs}
 use Rattle.run_answer.proofs.fronts.solve.Statement.{statement}
 use Rattle.run_answer.proofs.fronts.solve.Tie as tie
 
--- ---- places, the last first: the round was solved; the lists to be written were lent to it, and those to be read; the densities were copied; the entry
+-- ---- places, the last first: the round was solved; the lists to be written were lent to it, and those to be read; the densities were copied; the choice was looked at; the entry
 abbrev called : tie.After-slice-known14 → tie.After-solve
 called c = c .before .before .before .before .before .before .before .before .before .before .before .before
 
@@ -29,8 +30,11 @@ shared c = c .before .before .before .before .before
 abbrev copied : tie.After-solve-arg → tie.After-copy
 copied c = c .before .before .before .before
 
+abbrev chosen : tie.After-copy-arg2 → tie.After-sharpens
+chosen c = c .before .before
+
 abbrev start : tie.After-copy-arg2 → tie.Start
-start c = c .before .before .before .before .before .before .before .before .before .before .before .before .before .before .before .before
+start c = c .before .before .before .before .before .before .before .before .before .before .before .before .before .before .before .before .before .before
 
 -- from further on
 abbrev enter : tie.After-solve-arg → tie.Start
@@ -39,19 +43,25 @@ enter m = start (copied m .before)
 abbrev entry : tie.After-solve → tie.Start
 entry m = enter (shared (lent (m .before)))
 
+abbrev choice : tie.After-solve → tie.After-sharpens
+choice m = chosen (copied (shared (lent (m .before))) .before)
+
 abbrev elements : tie.Start → ℕ
 elements b = b .args .state .setting .elements
 
--- the case by the starts, of which the code counts one more than elements
-abbrev case : tie.Start → List ℕ → Case
-case b s =
+-- the case by whether it sharpens and by the starts, of which the code counts one more than elements
+abbrev case : tie.Start → Bool → List ℕ → Case
+case b t s =
     caseAt (take (elements b) (now (b .args .volumes))) (take (elements b) (now (b .args .passive)))
     s (take (b .args .state .setting .entries) (now (b .args .near))) (take (b .args .state .setting .entries) (now (b .args .coef)))
-    (b .args .state .setting .fraction) (b .args .state .setting .sharpen)
+    (b .args .state .setting .fraction) t
 
 -- ---- the needs
+sharpens-requires : tie.Need-sharpens-requires
+sharpens-requires c κs = search needs
+
 slice-aggregate-copy : tie.Need-slice-aggregate-copy
-slice-aggregate-copy c = front _ _ (c .before .before .before .before .before .before .before .before .before .before .before .before .before .before .before .pre .0 .density)
+slice-aggregate-copy c = front _ _ (c .before .before .before .before .before .before .before .before .before .before .before .before .before .before .before .before .before .pre .0 .density)
 
 slice-relend-prefix-copy : tie.Need-slice-relend-prefix-copy
 slice-relend-prefix-copy c = search needs
@@ -193,12 +203,13 @@ returns c =
     let x = take n (now (a .design)) in
     let q = take n (now (a .density)) in
     let starts = take-one n (now (a .starts)) in
+    let sharp = choice m .sharpens .ensures in
     let u = now (a .energies) in
     let ys = m .solve .last .1 .1 .1 .1 .1 .1 .1 .1 .1 .1 .1 .0 in
     let k = m .solve .kept .1 .1 .1 .1 .1 .1 .1 .1 .1 .1 .1 .0 in
     record {
-      entry = m .solve .ensures .0 ∙ (λ i. recordAt (case b (starts i)) steep x q u (add-one (a .state .progress .rounds) i));
-      design-is = laid n ys _ (now (a .design)) (m .solve .ensures .1 ∙ (λ i. updateAt (case b (starts i)) steep x q u .design)) k (p .design);
+      entry = m .solve .ensures .0 ∙ (λ i. recordAt (case b (sharp i) (starts i)) steep x q u (add-one (a .state .progress .rounds) i));
+      design-is = laid n ys _ (now (a .design)) (m .solve .ensures .1 ∙ (λ i. updateAt (case b (sharp i) (starts i)) steep x q u .design)) k (p .design);
       last-is = laid n (f .last .1 .0) q (now (a .last)) (f .ensures) (f .kept .1 .0) (p .last);
       work = record { free = free-left m; slope = slope-left m; spare = spare-left m; dc = dc-left m; dv = dv-left m };
     }
@@ -207,6 +218,7 @@ pub solve-spec : {M : Type 1} → statement M
 solve-spec =
     tie.close
     (tie.spec
+    sharpens-requires
     slice-aggregate-copy
     slice-relend-prefix-copy
     slice-aggregate-copy-2
