@@ -19,7 +19,7 @@ use std::hint::black_box;
 use std::process::ExitCode;
 use std::time::Instant;
 
-use sokdrib::{faces, geom, ieee, topo};
+use sokdrib::{faces, geom, ieee, shift, topo};
 use tenon::stand_ins;
 
 /// How many inputs a list has: all of them fit the nearest cache.
@@ -91,6 +91,44 @@ fn ours(v: [f64; 12]) -> [geom::Vec3; 4] {
     std::array::from_fn(|i| geom::Vec3 { x: v[3 * i], y: v[3 * i + 1], z: v[3 * i + 2] })
 }
 
+/// A pass that grants a question for each list of names, from a fresh shift on.
+fn shift_pass(fresh: shift::Shift, named: &[Vec<u32>], grant: impl Fn(&mut shift::Shift, &[u32]) -> u32) -> impl FnMut(&mut [f64]) {
+    move |out| {
+        let mut shift = fresh;
+        black_box(named).iter().zip(out).for_each(|(n, o)| *o = f64::from(grant(&mut shift, n)));
+    }
+}
+
+/// A grant in plain Rust: the job, or the refusal's number.
+#[inline(never)]
+fn granted(s: &mut shift::Shift, named: &[u32]) -> u32 {
+    let right = |j: usize| {
+        let (share, limit, granted) = (s.share[j], s.limit[j], s.granted[j]);
+        if j < s.jobs as usize {
+            (1..=1000).contains(&share) && limit <= 1_000_000 && granted <= limit
+        } else {
+            (share, limit, granted) == (0, 0, 0)
+        }
+    };
+    let total = s.granted.iter().map(|n| u64::from(*n)).sum::<u64>();
+    if !(1..=16).contains(&s.jobs) || !(0..16).all(right) || total > 1_000_000 {
+        return 20;
+    }
+    if named.iter().any(|j| *j >= s.jobs) {
+        return 30;
+    }
+    let waiting = named.iter().map(|j| *j as usize).filter(|j| s.granted[*j] < s.limit[*j]);
+    let (next, share) = (|j: usize| u64::from(s.granted[j]) + 1, |j: usize| u64::from(s.share[j]));
+    let sooner = |a: usize, b: usize| (next(a) * share(b), a) < (next(b) * share(a), b);
+    match waiting.reduce(|a, b| if sooner(b, a) { b } else { a }) {
+        Some(job) if total < 1_000_000 => {
+            s.granted[job] += 1;
+            job as u32
+        }
+        _ => 31,
+    }
+}
+
 fn main() -> ExitCode {
     let words: Vec<String> = std::env::args().skip(1).collect();
     match &words.iter().map(String::as_str).collect::<Vec<_>>()[..] {
@@ -128,6 +166,12 @@ fn all(repetitions: usize) {
     let known: Vec<f64> = stiffnesses.iter().map(|x| moduli[(x * 1000.0) as usize]).collect();
     let found = |m: f64| moduli.binary_search_by(|entry| entry.total_cmp(&m)).map_or(29.0, |level| level as f64);
     line("level_with, calls", repetitions, each(&known, |m| topo::level_with(m).map_or(29.0, f64::from)), each(&known, found));
+
+    // nor has it a shift: beside a grant stands a plain one, with the same tests and products
+    let fresh = shift::begin(&std::array::from_fn::<_, 16, _>(|j| [1 + 61 * j as u32, 1_000_000])).expect("a shift");
+    let named: Vec<Vec<u32>> = (0..INPUTS).map(|_| (0..16).filter(|_| random.unit() < 0.7).collect()).collect();
+    let ours_grants = shift_pass(fresh, &named, |s, n| shift::grant(s, n).unwrap_or(31));
+    line("shift_grant, 16 jobs", repetitions, ours_grants, shift_pass(fresh, &named, granted));
 
     let points = random.list::<3>(-2.0, 2.0);
     let corners = random.list::<9>(-1.0, 1.0);

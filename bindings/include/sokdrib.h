@@ -45,17 +45,23 @@
  *   18  the solver failed. Left: over. By: answer.
  *   19  the solid part's work not above 0. Left: over. By: answer.
  *   20  call out of turn, a state that no run has ("A run", docs/API.md), or, across C, a sharpening above 2 in the
- *       goal or the state. Left: kept. By: open, answer.
+ *       goal or the state; a shift that fails the test of its numbers ("A shift"). Left: kept. By: open, answer; of a
+ *       shift shift_grant.
  *   21  a boundary triangle names a node that is not there. Left: kept. By: passive, asymmetry.
  *   22  the job strip is malformed. Left: kept. By: the calls of strip_stream and strip_read, program shape: none of
  *       C's.
  *   29  level_with: no level's modulus is the one given; level_below: a number below the lowest modulus or above the
  *       highest, or not a number. Left: kept: nothing is lent. By: level_with, level_below.
+ *   30  shift_begin: no jobs or more than sixteen, a share not from 1 to 1,000, or a limit above 1,000,000;
+ *       shift_grant: a number that no job of the shift has. Left: kept; a beginning is lent no shift. By: shift_begin,
+ *       shift_grant.
+ *   31  none of the jobs named is below its limit, none named among it, or all 1,000,000 questions of the shift are
+ *       granted. Left: kept. By: shift_grant.
  *
  * Where several apply, the first of these is given. open: 20, 1 to 12, 14; row by row 13, 14; last 15. filter_build: the
  * same without 20, 5, 6, 7 and 15. answer: 20, 14; 15 or 18 as the solver said; 16, 17, 19, last 15. Mesh calls (design,
  * block, passive, asymmetry, off_centre): those that they have of 3, 21, 9, 11, 8, 14. Parts of a round (start, see,
- * work_slope, volume_slope, kept, update): 1, 14. A strip: 22, 14. The way back from a stiffness: 29. Every other call is a leaf or works with whatever it
+ * work_slope, volume_slope, kept, update): 1, 14. A strip: 22, 14. The way back from a stiffness: 29. A shift: 30 at its beginning; shift_grant: 20, 30, 31. Every other call is a leaf or works with whatever it
  * is given, and refuses nothing. */
 #ifndef SOKDRIB_H
 #define SOKDRIB_H
@@ -190,6 +196,25 @@ typedef struct {
     SokdribRunRecord entry;
 } SokdribRunStep;
 
+/* What goes by value from call to call: the jobs' numbers stand at their places, and zeros past them. */
+typedef struct {
+    uint32_t jobs;
+    uint32_t share[16];
+    uint32_t limit[16];
+    uint32_t granted[16];
+} SokdribShift;
+
+typedef struct {
+    uint32_t refused;
+    SokdribShift shift;
+} SokdribShiftBegun;
+
+typedef struct {
+    uint32_t refused;
+    uint32_t job;
+    SokdribShift shift;
+} SokdribShiftGrant;
+
 /* How an update ended, or the number of a refusal and zeros. Ending 0: met, with the kept volume first. 1: cramped, with the lower and the
  * upper rate of its bracket. 2: spent, with the kept volume first. */
 typedef struct {
@@ -216,6 +241,9 @@ _Static_assert(sizeof(SokdribRunReturned) == 112, "SokdribRunReturned");
 _Static_assert(sizeof(SokdribRunHeard) == 24, "SokdribRunHeard");
 _Static_assert(sizeof(SokdribRunRecord) == 56, "SokdribRunRecord");
 _Static_assert(sizeof(SokdribRunStep) == 176, "SokdribRunStep");
+_Static_assert(sizeof(SokdribShift) == 196, "SokdribShift");
+_Static_assert(sizeof(SokdribShiftBegun) == 200, "SokdribShiftBegun");
+_Static_assert(sizeof(SokdribShiftGrant) == 204, "SokdribShiftGrant");
 _Static_assert(sizeof(SokdribUpdate) == 32, "SokdribUpdate");
 #endif
 
@@ -700,6 +728,12 @@ SokdribRunStep sokdrib_answer(
     double *dv,
     size_t dv_len
 );
+
+/* A shift of up to sixteen jobs, of each its share and its limit; 30 for more than sixteen or none, and for a share or a limit out of range. */
+SokdribShiftBegun sokdrib_shift_begin(const uint32_t (*jobs)[2], size_t jobs_len);
+
+/* The next question, to one of the jobs named: the job, and the shift for the next call. 20, 30 and 31 leave the shift as it was lent. */
+SokdribShiftGrant sokdrib_shift_grant(SokdribShift shift, const uint32_t *named, size_t named_len);
 
 /* One update of the design x, from the slopes dc of the work and dv of the volume: each value moved by at most m, the rate found at which the
  * volume kept is within tolerance of target. The rule and its value are those of sokdrib_kept, with dv for the slope of the volume. design is

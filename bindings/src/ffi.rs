@@ -171,6 +171,34 @@ pub struct RunStep {
 }
 const _: () = assert!(size_of::<RunStep>() == 176 && align_of::<RunStep>() == 8);
 
+/// What goes by value from call to call: the jobs' numbers stand at their places, and zeros past them.
+#[repr(C)]
+#[derive(Clone, Copy, Debug, Default, PartialEq)]
+pub struct Shift {
+    pub jobs: u32,
+    pub share: [u32; 16],
+    pub limit: [u32; 16],
+    pub granted: [u32; 16],
+}
+const _: () = assert!(size_of::<Shift>() == 196 && align_of::<Shift>() == 4);
+
+#[repr(C)]
+#[derive(Clone, Copy, Debug, Default, PartialEq)]
+pub struct ShiftBegun {
+    pub refused: u32,
+    pub shift: Shift,
+}
+const _: () = assert!(size_of::<ShiftBegun>() == 200 && align_of::<ShiftBegun>() == 4);
+
+#[repr(C)]
+#[derive(Clone, Copy, Debug, Default, PartialEq)]
+pub struct ShiftGrant {
+    pub refused: u32,
+    pub job: u32,
+    pub shift: Shift,
+}
+const _: () = assert!(size_of::<ShiftGrant>() == 204 && align_of::<ShiftGrant>() == 4);
+
 /// How an update ended, or the number of a refusal and zeros. Ending 0: met, with the kept volume first. 1: cramped, with the lower and the
 /// upper rate of its bracket. 2: spent, with the kept volume first.
 #[repr(C)]
@@ -185,7 +213,7 @@ pub struct Update {
 const _: () = assert!(size_of::<Update>() == 32 && align_of::<Update>() == 8);
 
 mod library {
-    use super::{Asymmetry, Kept, LevelNumbers, Made, Mirror, OffCentre, Projected, RunGoal, RunHeard, RunReturned, RunState, RunStep, Start, Update, Vec3};
+    use super::{Asymmetry, Kept, LevelNumbers, Made, Mirror, OffCentre, Projected, RunGoal, RunHeard, RunReturned, RunState, RunStep, Shift, ShiftBegun, ShiftGrant, Start, Update, Vec3};
 
     unsafe extern "C" {
         /// The size of x.
@@ -564,6 +592,8 @@ mod library {
             dv: *mut f64,
             dv_len: usize,
         ) -> RunStep;
+        pub unsafe fn sokdrib_shift_begin(jobs: *const [u32; 2], jobs_len: usize) -> ShiftBegun;
+        pub unsafe fn sokdrib_shift_grant(shift: Shift, named: *const u32, named_len: usize) -> ShiftGrant;
         pub unsafe fn sokdrib_update(
             x: *const f64,
             x_len: usize,
@@ -1081,6 +1111,18 @@ pub fn sokdrib_answer(
         dc.as_mut_ptr(), dc.len(),
         dv.as_mut_ptr(), dv.len()
     ) }
+}
+
+/// A shift of up to sixteen jobs, of each its share and its limit; 30 for more than sixteen or none, and for a share or a limit out of range.
+pub fn sokdrib_shift_begin(jobs: &[[u32; 2]]) -> ShiftBegun {
+    // SAFETY: see above.
+    unsafe { library::sokdrib_shift_begin(jobs.as_ptr(), jobs.len()) }
+}
+
+/// The next question, to one of the jobs named: the job, and the shift for the next call. 20, 30 and 31 leave the shift as it was lent.
+pub fn sokdrib_shift_grant(shift: Shift, named: &[u32]) -> ShiftGrant {
+    // SAFETY: see above.
+    unsafe { library::sokdrib_shift_grant(shift, named.as_ptr(), named.len()) }
 }
 
 /// One update of the design x, from the slopes dc of the work and dv of the volume: each value moved by at most m, the rate found at which the

@@ -11,6 +11,7 @@ pub mod mesh;
 pub mod oc;
 pub mod region;
 pub mod run;
+pub mod shift;
 pub mod table;
 pub mod topo;
 

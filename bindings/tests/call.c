@@ -10,6 +10,11 @@ int main(void) {
     if (sokdrib_mirror_image(mirror, sokdrib_vec3_new(2.0, 0.0, 0.0)).x != -2.0) return 3;
     if (sokdrib_level_of(0.5) != 500) return 4;
     if (sokdrib_level_with(1.0).level != 1000 || sokdrib_level_with(0.5).refused != 29 || sokdrib_level_below(0.5).level != 793) return 11;
+    const uint32_t jobs[2][2] = {{1, 5}, {2, 5}}, named[3] = {0, 1, 1};
+    SokdribShiftBegun shift = sokdrib_shift_begin(jobs, 2);
+    SokdribShiftGrant granted = sokdrib_shift_grant(shift.shift, named, 3);
+    if (shift.refused != 0 || granted.refused != 0 || granted.job != 1 || granted.shift.granted[0] != 0 || granted.shift.granted[1] != 1) return 12;
+    if (sokdrib_shift_grant(granted.shift, NULL, 0).refused != 31 || sokdrib_shift_begin(NULL, 0).refused != 30) return 13;
     sokdrib_sqrt_each(xs, 2, out, 3);
     if (out[0] != 2.0 || out[1] != 4.0 || out[2] != 9.0) return 5;
     sokdrib_sqrt_each(NULL, 0, out, 3);

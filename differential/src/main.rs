@@ -18,6 +18,7 @@ mod plain;
 mod region;
 mod runs;
 mod shares;
+mod shifts;
 mod strips;
 mod whole;
 
@@ -61,6 +62,7 @@ fn main() -> ExitCode {
     region::all(&mut run);
     filter::all(&mut run);
     shares::all(&mut run);
+    shifts::all(&mut run);
     oc::all(&mut run);
     runs::all(&mut run);
     calls::all(&mut run);

@@ -6,6 +6,7 @@ mod meshes;
 mod regions;
 mod rounds;
 mod runs;
+mod shifts;
 mod updates;
 
 ghost use mathlib.Core.Path.{_≡_};
