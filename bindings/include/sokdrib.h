@@ -665,7 +665,7 @@ double sokdrib_grey(const double *density, size_t density_len, const double *fre
 /* Opens a run on a state with none open: the solid part is asked for, or the refusal's number is told. room is how many records the history has room
  * for; the opening writes none. 1 to 12, 20, and 14 before the first row, leave all lists as before; 13 and 14 at a row leave the filter's lists and the
  * working lists (cell and those after it) zero throughout, and 15, by the flag, the finished filter and the working lists zero. The fresh state is all zero; a
- * phase above 2 is refused with 20. */
+ * phase above 2, and a sharpening above 2 in the state or the goal, is refused with 20. */
 SokdribRunReturned sokdrib_open(
     size_t room,
     SokdribRunState state,
@@ -711,7 +711,7 @@ SokdribRunReturned sokdrib_open(
 
 /* The solver's answer to the last question: what is heard of it, and the energies. The filter's lists, the design and both densities are those that the last call left. The record that
  * is told is to be put at its place of the history, which has room for so many records; where the place is past that there is none. free and the
- * lists after it are for the call's own use. A phase above 2 is refused with 20. */
+ * lists after it are for the call's own use. A phase or a sharpening above 2 is refused with 20. */
 SokdribRunStep sokdrib_answer(
     size_t room,
     SokdribRunState state,
