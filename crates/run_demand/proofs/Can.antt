@@ -24,8 +24,8 @@ pub as-lent : (n : ℕ) (w : Work) (v : Verdict) → worked n w w v
 as-lent n w (Kept k) = refl
 as-lent n w (Over k) = refl
 as-lent n w Halts = refl
-as-lent n w Begins = record { free = record { long = refl; rest = refl }; slope = record { long = refl; rest = refl }; spare = record { long = refl; rest = refl }; dc = record { long = refl; rest = refl }; dv = record { long = refl; rest = refl } }
-as-lent n w Solves = record { free = record { long = refl; rest = refl }; slope = record { long = refl; rest = refl }; spare = record { long = refl; rest = refl }; dc = record { long = refl; rest = refl }; dv = record { long = refl; rest = refl } }
+as-lent n w Begins = record { free = (refl, refl); slope = (refl, refl); spare = (refl, refl); dc = (refl, refl); dv = (refl, refl) }
+as-lent n w Solves = record { free = (refl, refl); slope = (refl, refl); spare = (refl, refl); dc = (refl, refl); dv = (refl, refl) }
 
 pub answer-can : (w : World) (c : Call) (work : Work) → lengthsOf work ≡ c .lent .work → Met w (answerMade w c work)
 answer-can w c work e =
