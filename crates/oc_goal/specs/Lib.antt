@@ -1,2 +1,2 @@
--- `Goal` has the volume to keep, how near, the room left and the density to start at.
+-- `Goal` has the range of a turning density, the volume to keep, how near, the room left and the density to start at.
 pub mod Goal

@@ -5,6 +5,7 @@ use mathlib.Core.List.{List}
 use Prim.Native.Nat.{ℕ}
 use lib.Ieee.{Float, binary64, add}
 use Rattle.oc_record.specs.Record.{dot}
+use Rattle.oc_project.specs.declared.Bend.{Bend}
 use Rattle.oc_seen.specs.declared.Sharpness.the-variants.{At}
 use Rattle.oc_seen.specs.Seen.{seenDensity}
 use Rattle.oc_kept.specs.declared.Rule.{Rule}
@@ -16,7 +17,7 @@ module _ (starts near : List ℕ) (coef : List Float) (rule : Rule) (straight vo
   unfolding keptOf
   kept-straight solid d r e f g = rw e (g ∙ ap (add binary64 solid) f)
 
-  pub kept-sharpened : (beta : Float) (o : List Float) (r : Float) → rule ≡ Sharpened beta → o ≡ seenDensity (At beta) starts near coef passive y → r ≡ dot volumes o
+  pub kept-sharpened : (b : Bend) (o : List Float) (r : Float) → rule ≡ Sharpened b → o ≡ seenDensity (At b) starts near coef passive y → r ≡ dot volumes o
       → r ≡ keptOf rule straight starts near coef volumes passive y
   unfolding keptOf
-  kept-sharpened beta o r e f g = rw e (g ∙ ap (dot volumes) f)
+  kept-sharpened b o r e f g = rw e (g ∙ ap (dot volumes) f)

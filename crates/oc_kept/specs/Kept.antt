@@ -12,4 +12,4 @@ use Rattle.oc_seen.specs.Seen.{seenDensity}
 -- without sharpening `solid + dot(&straight, y)`, which clamps nothing; else `kept`, the volume of the densities that a solve would see
 unfoldable pub keptOf : Rule → List Float → List ℕ → List ℕ → List Float → List Float → List Bool → List Float → Float
 keptOf (Straight solid) straight starts near coef volumes passive y = add binary64 solid (dot straight y)
-keptOf (Sharpened beta) straight starts near coef volumes passive y = dot volumes (seenDensity (At beta) starts near coef passive y)
+keptOf (Sharpened b) straight starts near coef volumes passive y = dot volumes (seenDensity (At b) starts near coef passive y)

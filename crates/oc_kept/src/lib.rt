@@ -5,13 +5,14 @@ ghost use lib.ListN.{length};
 ghost use Rattle.filter_table.specs.Table.{Wf, applied};
 ghost use Rattle.oc_seen.specs.Seen.{densities};
 ghost use Rattle.oc_kept.specs.Kept.{keptOf};
+use oc_project::Bend;
 use oc_seen::Sharpness;
 
 pub enum Rule {
     // the volume held solid, to which the design adds along the slope of the volume
     Straight(f64),
-    // the steepness at which the densities are seen
-    Sharpened(f64),
+    // the bend at which the densities are seen
+    Sharpened(Bend),
 }
 
 // The filter's product, without tests in its loop where the table is known to be well formed.
@@ -27,11 +28,11 @@ fn filtered(well: bool, starts: &[u32], near: &[u32], coef: &[f64], x: &[f64], o
 }
 
 // The filtered values in `density`, sharpened.
-fn sharpen(beta: f64, passive: &[bool], density: &mut [f64])
+fn sharpen(bend: Bend, passive: &[bool], density: &mut [f64])
     requires { ⌜ length (now density) ≡ length (now passive) ⌝ }
-    ensures { λ _. ⌜ now (density .exit) ≡ densities (Sharpness.At beta) (now (passive .entry)) (now (density .entry)) ⌝ }
+    ensures { λ _. ⌜ now (density .exit) ≡ densities (Sharpness.At bend) (now (passive .entry)) (now (density .entry)) ⌝ }
 {
-    let at = oc_project::at_steepness(beta);
+    let at = oc_project::at_bend(bend);
     let mut i = 0usize;
     while i < passive.len() {
         let p = oc_project::project(at, ieee::clamp(density[i]));
@@ -59,9 +60,9 @@ pub fn kept(
 {
     match rule {
         Rule::Straight(solid) => solid + oc_record::dot(straight, y),
-        Rule::Sharpened(beta) => {
+        Rule::Sharpened(bend) => {
             filtered(well, starts, near, coef, y, density);
-            sharpen(beta, passive, density);
+            sharpen(bend, passive, density);
             oc_record::dot(volumes, &density[..])
         }
     }

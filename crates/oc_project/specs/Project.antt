@@ -1,12 +1,10 @@
--- Sharpening: `project` of oc.rs, in its operation order, with 01's tanh. Definitions only.
+-- Sharpening: `project` of oc.rs, in its operation order, with 01's tanh. 02: "The goal gets a turning density from 0.25 to 0.75 which takes the half's place
+-- throughout the projection. The divisor, in the slopes too, is the dividend's value at 1." Definitions only.
 use mathlib.Core.List.{List, [], _∷_}
 use lib.Ieee.{Float, binary64, add, sub, mul, div, ofBits}
 use Rattle.ieee.specs.Basic.{one64}
 use Rattle.ieee_tanh.specs.Tanh.{tanhOf}
-
--- PROJECT_AT, 0.5
-abbrev pub projectAt : Float
-projectAt = ofBits binary64 0x3fe0_0000_0000_0000
+use Rattle.oc_project.specs.declared.Bend.{Bend}
 
 -- STAGES: "The steepness runs 1, 2, 4, 8, 16"
 abbrev pub stages : List Float
@@ -18,23 +16,29 @@ stages =
     ∷ ofBits binary64 0x4030_0000_0000_0000
     ∷ []
 
--- `below`
-unfoldable pub belowOf : Float → Float
-belowOf beta = tanhOf (mul binary64 beta projectAt)
+abbrev pub bendOf : Float → Float → Bend
+bendOf beta at = record { beta = beta; «project_at» = at }
 
--- `whole`
-unfoldable pub wholeOf : Float → Float
-wholeOf beta = add binary64 (belowOf beta) (tanhOf (mul binary64 beta (sub binary64 one64 projectAt)))
+-- `below`
+unfoldable pub belowOf : Bend → Float
+belowOf b = tanhOf (mul binary64 (b .beta) (b .«project_at»))
 
 -- `t`
-unfoldable pub turned : Float → Float → Float
-turned beta v = tanhOf (mul binary64 beta (sub binary64 v projectAt))
+unfoldable pub turned : Bend → Float → Float
+turned b v = tanhOf (mul binary64 (b .beta) (sub binary64 v (b .«project_at»)))
+
+-- `below + t`
+unfoldable pub dividend : Bend → Float → Float
+dividend b v = add binary64 (belowOf b) (turned b v)
+
+-- `whole`
+unfoldable pub wholeOf : Bend → Float
+wholeOf b = dividend b one64
 
 -- `(below + t) / whole`
-unfoldable pub projected : Float → Float → Float
-projected beta v = div binary64 (add binary64 (belowOf beta) (turned beta v)) (wholeOf beta)
+unfoldable pub projected : Bend → Float → Float
+projected b v = div binary64 (dividend b v) (wholeOf b)
 
 -- `beta * (1.0 - t * t) / whole`
-unfoldable pub projectedSlope : Float → Float → Float
-projectedSlope beta v =
-    div binary64 (mul binary64 beta (sub binary64 one64 (mul binary64 (turned beta v) (turned beta v)))) (wholeOf beta)
+unfoldable pub projectedSlope : Bend → Float → Float
+projectedSlope b v = div binary64 (mul binary64 (b .beta) (sub binary64 one64 (mul binary64 (turned b v) (turned b v)))) (wholeOf b)

@@ -14,11 +14,11 @@ use Rattle.oc_project.specs.Project.{projected, projectedSlope}
 -- `Some(b) => project(v, b)`, `None => (v, 1.0)`
 unfoldable pub sharpened : Sharpness → Float → Float
 sharpened Off v = v
-sharpened (At beta) v = projected beta v
+sharpened (At b) v = projected b v
 
 unfoldable pub sharpenedSlope : Sharpness → Float → Float
 sharpenedSlope Off v = one64
-sharpenedSlope (At beta) v = projectedSlope beta v
+sharpenedSlope (At b) v = projectedSlope b v
 
 -- an element's density and slope from its filtered value: `(1.0, 0.0)` where held, else of `v.clamp(0.0, 1.0)`
 unfoldable pub elementDensity : Sharpness → Bool → Float → Float

@@ -3,10 +3,11 @@
 ghost use mathlib.Core.Path.{_≡_};
 ghost use lib.ListN.{length};
 ghost use Rattle.oc_seen.specs.Seen.{densities, slopes, seenDensity, seenSlope};
+use oc_project::Bend;
 
 pub enum Sharpness {
     Off,
-    At(f64),
+    At(Bend),
 }
 
 // The filtered values in `density` without sharpening.
@@ -25,11 +26,11 @@ fn see_plain(passive: &[bool], density: &mut [f64], slope: &mut [f64])
 }
 
 // The same, sharpened.
-fn see_sharpened(beta: f64, passive: &[bool], density: &mut [f64], slope: &mut [f64])
+fn see_sharpened(bend: Bend, passive: &[bool], density: &mut [f64], slope: &mut [f64])
     requires { ⌜ (length (now density) ≡ length (now passive)) × (length (now slope) ≡ length (now passive)) ⌝ }
-    ensures { λ _. ⌜ (now (density .exit) ≡ densities (Sharpness.At beta) (now (passive .entry)) (now (density .entry))) × (now (slope .exit) ≡ slopes (Sharpness.At beta) (now (passive .entry)) (now (density .entry))) ⌝ }
+    ensures { λ _. ⌜ (now (density .exit) ≡ densities (Sharpness.At bend) (now (passive .entry)) (now (density .entry))) × (now (slope .exit) ≡ slopes (Sharpness.At bend) (now (passive .entry)) (now (density .entry))) ⌝ }
 {
-    let at = oc_project::at_steepness(beta);
+    let at = oc_project::at_bend(bend);
     let mut i = 0usize;
     while i < passive.len() {
         let p = oc_project::project(at, ieee::clamp(density[i]));
@@ -56,6 +57,6 @@ pub fn see(
     filter_apply::apply(starts, near, coef, x, density);
     match sharpness {
         Sharpness::Off => see_plain(passive, density, slope),
-        Sharpness::At(beta) => see_sharpened(beta, passive, density, slope),
+        Sharpness::At(bend) => see_sharpened(bend, passive, density, slope),
     }
 }

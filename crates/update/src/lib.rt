@@ -55,7 +55,7 @@ fn fast(
             design,
             work,
         ),
-        Rule::Sharpened(beta) => update_sharpened::sharpened(
+        Rule::Sharpened(bend) => update_sharpened::sharpened(
             x,
             gain,
             dv,
@@ -63,7 +63,7 @@ fn fast(
             m,
             target,
             tolerance,
-            beta,
+            bend,
             starts,
             near,
             coef,

@@ -8,6 +8,7 @@ ghost use Rattle.filter_table.specs.Table.{Wf};
 ghost use Rattle.update_rates.specs.Rates.{Given, given, trial, reckoned, whileTo, halves, halved, firstRate, updated};
 ghost use Rattle.update_rates.specs.Steps.{standAt, standing};
 use oc_kept::Rule;
+use oc_project::Bend;
 use update_rates::Bracket;
 use update_rates::PASSES;
 
@@ -59,7 +60,7 @@ fn volume_at(
     m: f64,
     target: f64,
     tolerance: f64,
-    beta: f64,
+    bend: Bend,
     starts: &[u32],
     near: &[u32],
     coef: &[f64],
@@ -73,7 +74,7 @@ fn volume_at(
     work: &mut [f64],
 ) -> Ahead
     ghost { Given }
-    requires { λ g. ⌜ given (now x) (now gain) (now dv) (now passive) m target tolerance (Rule.Sharpened beta) (now starts) (now near) (now coef) (now volumes) ≡ g ⌝ }
+    requires { λ g. ⌜ given (now x) (now gain) (now dv) (now passive) m target tolerance (Rule.Sharpened bend) (now starts) (now near) (now coef) (now volumes) ≡ g ⌝ }
     requires { λ _. ⌜ (length (now gain) ≡ length (now x)) × (length (now passive) ≡ length (now x)) × (length (now design) ≡ length (now x)) × (length (now work) ≡ length (now x)) ⌝ }
     requires { λ _. ⌜ Wf (now starts) (now near) (now coef) (length (now x)) (length (now x)) ⌝ }
     requires { λ g. ⌜ (one ≡ reckoned g (now design)) × (two ≡ reckoned g (now work)) × (now work ≡ trial g ahead) ⌝ }
@@ -98,7 +99,7 @@ fn volume_at(
         };
     }
     let v = update_two::kept(
-        beta,
+        bend,
         starts,
         near,
         coef,
@@ -123,7 +124,7 @@ fn search(
     m: f64,
     target: f64,
     tolerance: f64,
-    beta: f64,
+    bend: Bend,
     starts: &[u32],
     near: &[u32],
     coef: &[f64],
@@ -134,7 +135,7 @@ fn search(
     work: &mut [f64],
 ) -> Reached
     ghost { Given }
-    requires { λ g. ⌜ given (now x) (now gain) (now dv) (now passive) m target tolerance (Rule.Sharpened beta) (now starts) (now near) (now coef) (now volumes) ≡ g ⌝ }
+    requires { λ g. ⌜ given (now x) (now gain) (now dv) (now passive) m target tolerance (Rule.Sharpened bend) (now starts) (now near) (now coef) (now volumes) ≡ g ⌝ }
     requires { λ _. ⌜ (length (now gain) ≡ length (now x)) × (length (now passive) ≡ length (now x)) × (length (now design) ≡ length (now x)) × (length (now work) ≡ length (now x)) ⌝ }
     requires { λ _. ⌜ Wf (now starts) (now near) (now coef) (length (now x)) (length (now x)) ⌝ }
     requires { λ g. ⌜ (begun .kept ≡ reckoned g (trial g first)) × (begun .one ≡ reckoned g (now design)) × (begun .two ≡ reckoned g (now work)) × (now work ≡ trial g (begun .next)) ⌝ }
@@ -177,7 +178,7 @@ fn search(
             m,
             target,
             tolerance,
-            beta,
+            bend,
             starts,
             near,
             coef,
@@ -217,7 +218,7 @@ pub fn sharpened(
     m: f64,
     target: f64,
     tolerance: f64,
-    beta: f64,
+    bend: Bend,
     starts: &[u32],
     near: &[u32],
     coef: &[f64],
@@ -227,7 +228,7 @@ pub fn sharpened(
     work: &mut [f64],
 ) -> Bracket
     ghost { Given }
-    requires { λ g. ⌜ given (now x) (now gain) (now dv) (now passive) m target tolerance (Rule.Sharpened beta) (now starts) (now near) (now coef) (now volumes) ≡ g ⌝ }
+    requires { λ g. ⌜ given (now x) (now gain) (now dv) (now passive) m target tolerance (Rule.Sharpened bend) (now starts) (now near) (now coef) (now volumes) ≡ g ⌝ }
     requires { λ _. ⌜ (length (now gain) ≡ length (now x)) × (length (now passive) ≡ length (now x)) × (length (now design) ≡ length (now x)) × (length (now work) ≡ length (now x)) ⌝ }
     requires { λ g. ⌜ first ≡ firstRate g ⌝ }
     ensures { λ g r. ⌜ (0 < r .passes → standing r (now (design .exit)) ≡ updated g) ⌝ }
@@ -237,7 +238,7 @@ pub fn sharpened(
         update_design::design_at(x, gain, passive, m, first, design);
         update_design::design_at(x, gain, passive, m, next, work);
         let v = update_two::kept(
-            beta,
+            bend,
             starts,
             near,
             coef,
@@ -264,7 +265,7 @@ pub fn sharpened(
             m,
             target,
             tolerance,
-            beta,
+            bend,
             starts,
             near,
             coef,

@@ -12,38 +12,35 @@ use Rattle.ieee.specs.Basic.{one64, clampOf}
 use Rattle.ieee_tanh.specs.Tanh.{tanhOf}
 use Rattle.filter_table.specs.Table.{rowSum, applied}
 use Rattle.oc_seen.specs.declared.Sharpness.the-variants.{At}
-use Rattle.oc_project.specs.Project.{belowOf, wholeOf, turned, projected}
+use Rattle.oc_project.specs.declared.Bend.{Bend}
+use Rattle.oc_project.specs.Project.{belowOf, wholeOf, turned, dividend, projected}
 use Rattle.oc_record.specs.Record.{dot}
 use Rattle.oc_seen.specs.Seen.{sharpened, elementDensity, densities, seenDensity}
 use Rattle.update_two.specs.Part.{bent, part}
 
 -- ---- one element
-module _ (beta : Float) (starts near : List ℕ) (coef volumes : List Float) (passive : List Bool) (y : List Float) where
+module _ (bend : Bend) (starts near : List ℕ) (coef volumes : List Float) (passive : List Bool) (y : List Float) where
   abbrev sums : ℕ → Float
   sums e = rowSum near coef y (getD starts e 0) (getD starts (e + 1) 0)
 
-  pub part-more : (e e' : ℕ) (below whole z t sum r : Float) → e' ≡ e + 1 → below ≡ belowOf beta → whole ≡ wholeOf beta → z ≡ bent beta (sums e) → t ≡ tanhOf z
-      → sum ≡ sumTo (part beta starts near coef volumes passive y) e
+  pub part-more : (e e' : ℕ) (below whole z t sum r : Float) → e' ≡ e + 1 → below ≡ belowOf bend → whole ≡ wholeOf bend → z ≡ bent bend (sums e) → t ≡ tanhOf z
+      → sum ≡ sumTo (part bend starts near coef volumes passive y) e
       → r ≡ add binary64 sum (mul binary64 (getD volumes e nan) (choose (getD passive e false) one64 (div binary64 (add binary64 below t) whole)))
-      → r ≡ sumTo (part beta starts near coef volumes passive y) e'
-  unfolding bent part elementDensity sharpened projected turned
+      → r ≡ sumTo (part bend starts near coef volumes passive y) e'
+  unfolding bent part elementDensity sharpened projected dividend turned
   part-more e e' below whole z t sum r n b w k h s g =
-      let v : t ≡ turned beta (clampOf (sums e)) = h ∙ ap tanhOf k in
-      g ∙ (λ i. add binary64 (s i) (mul binary64 (getD volumes e nan) (choose (getD passive e false) one64 (div binary64 (add binary64 (b i) (v i)) (w i))))) ∙ sumTo-more (part beta starts near coef volumes passive y) e ∙ ap (sumTo (part beta starts near coef volumes passive y)) (sym n)
-
-  -- at an equal steepness
-  pub part-at : (b : Float) (n : ℕ) → b ≡ beta → sumTo (part b starts near coef volumes passive y) n ≡ sumTo (part beta starts near coef volumes passive y) n
-  part-at b n e = ap (λ (v : Float). sumTo (part v starts near coef volumes passive y) n) e
+      let v : t ≡ turned bend (clampOf (sums e)) = h ∙ ap tanhOf k in
+      g ∙ (λ i. add binary64 (s i) (mul binary64 (getD volumes e nan) (choose (getD passive e false) one64 (div binary64 (add binary64 (b i) (v i)) (w i))))) ∙ sumTo-more (part bend starts near coef volumes passive y) e ∙ ap (sumTo (part bend starts near coef volumes passive y)) (sym n)
 
   -- ---- all of them
   -- an element's density, by the list of the filtered values
   abbrev seen : ℕ → Float
-  seen e = elementDensity (At beta) (getD passive e false) (getD (tabulate sums (length passive)) e nan)
+  seen e = elementDensity (At bend) (getD passive e false) (getD (tabulate sums (length passive)) e nan)
 
-  pub parts-are : sumTo (part beta starts near coef volumes passive y) (min (length volumes) (length passive)) ≡ dot volumes (seenDensity (At beta) starts near coef passive y)
+  pub parts-are : sumTo (part bend starts near coef volumes passive y) (min (length volumes) (length passive)) ≡ dot volumes (seenDensity (At bend) starts near coef passive y)
   unfolding dot seenDensity densities applied part
   parts-are =
       let share : ℕ → Float = λ k. mul binary64 (getD volumes k nan) (getD (tabulate seen (length passive)) k nan) in
-      sumTo-same (part beta starts near coef volumes passive y) share (min (length volumes) (length passive))
-      (λ k h. ap (mul binary64 (getD volumes k nan)) (sym (getD-tabulate seen (length passive) k nan (omega arith) ∙ ap (elementDensity (At beta) (getD passive k false)) (getD-tabulate sums (length passive) k nan (omega arith)))))
+      sumTo-same (part bend starts near coef volumes passive y) share (min (length volumes) (length passive))
+      (λ k h. ap (mul binary64 (getD volumes k nan)) (sym (getD-tabulate seen (length passive) k nan (omega arith) ∙ ap (elementDensity (At bend) (getD passive k false)) (getD-tabulate sums (length passive) k nan (omega arith)))))
       ∙ ap (λ (n : ℕ). sumTo share (min (length volumes) n)) (sym (length-tabulate seen (length passive)))

@@ -13,6 +13,7 @@ ghost use Rattle.oc_project.specs.Project.{belowOf, wholeOf};
 ghost use Rattle.oc_record.specs.Record.{dot};
 ghost use Rattle.oc_seen.specs.Seen.{seenDensity};
 ghost use Rattle.update_two.specs.Part.{bent as bentOf, part};
+use oc_project::Bend;
 use oc_project::Projection;
 
 // A number of each design.
@@ -40,15 +41,16 @@ fn row(near: &[u32], coef: &[f64], x: &[f64], y: &[f64], from: usize, to: usize)
 }
 
 // What `project` takes the tanh of.
-fn bent(beta: f64, v: f64) -> f64
-    ensures { λ r. ⌜ r ≡ bentOf beta v ⌝ }
+fn bent(bend: Bend, v: f64) -> f64
+    ensures { λ r. ⌜ r ≡ bentOf bend v ⌝ }
 {
-    beta * (ieee::clamp(v) - topo::PROJECT_AT)
+    let beta = bend.beta;
+    beta * (ieee::clamp(v) - bend.project_at)
 }
 
 // The same of element e's filtered values.
 fn place(
-    beta: f64,
+    bend: Bend,
     starts: &[u32],
     near: &[u32],
     coef: &[f64],
@@ -58,14 +60,14 @@ fn place(
     e: usize,
 ) -> Two
     requires { ⌜ Wf (now starts) (now near) (now coef) n (length (now x)) × (length (now y) ≡ length (now x)) × (e < n) ⌝ }
-    ensures { λ r. ⌜ (r .a ≡ bentOf beta (rowSum (now (near .entry)) (now (coef .entry)) (now (x .entry)) (getD (now (starts .entry)) e 0) (getD (now (starts .entry)) (e + 1) 0))) × (r .b ≡ bentOf beta (rowSum (now (near .entry)) (now (coef .entry)) (now (y .entry)) (getD (now (starts .entry)) e 0) (getD (now (starts .entry)) (e + 1) 0))) ⌝ }
+    ensures { λ r. ⌜ (r .a ≡ bentOf bend (rowSum (now (near .entry)) (now (coef .entry)) (now (x .entry)) (getD (now (starts .entry)) e 0) (getD (now (starts .entry)) (e + 1) 0))) × (r .b ≡ bentOf bend (rowSum (now (near .entry)) (now (coef .entry)) (now (y .entry)) (getD (now (starts .entry)) e 0) (getD (now (starts .entry)) (e + 1) 0))) ⌝ }
 {
     let from = starts[e] as usize;
     let to = starts[e + 1usize] as usize;
     let s = row(near, coef, x, y, from, to);
     Two {
-        a: bent(beta, s.a),
-        b: bent(beta, s.b),
+        a: bent(bend, s.a),
+        b: bent(bend, s.b),
     }
 }
 
@@ -92,20 +94,20 @@ fn four(
     e: usize,
     sum: Two,
 ) -> Two
-    requires { ⌜ (at .below ≡ belowOf (at .beta)) × (at .whole ≡ wholeOf (at .beta)) ⌝ }
+    requires { ⌜ (at .below ≡ belowOf (at .bend)) × (at .whole ≡ wholeOf (at .bend)) ⌝ }
     requires { ⌜ Wf (now starts) (now near) (now coef) (length (now passive)) (length (now x)) × (length (now y) ≡ length (now x)) × (e + 3 < length (now passive)) × (e + 3 < length (now volumes)) ⌝ }
-    requires { ⌜ (sum .a ≡ sumTo (part (at .beta) (now starts) (now near) (now coef) (now volumes) (now passive) (now x)) e) × (sum .b ≡ sumTo (part (at .beta) (now starts) (now near) (now coef) (now volumes) (now passive) (now y)) e) ⌝ }
-    ensures { λ r. ⌜ (r .a ≡ sumTo (part (at .beta) (now (starts .entry)) (now (near .entry)) (now (coef .entry)) (now (volumes .entry)) (now (passive .entry)) (now (x .entry))) (e + 4)) × (r .b ≡ sumTo (part (at .beta) (now (starts .entry)) (now (near .entry)) (now (coef .entry)) (now (volumes .entry)) (now (passive .entry)) (now (y .entry))) (e + 4)) ⌝ }
+    requires { ⌜ (sum .a ≡ sumTo (part (at .bend) (now starts) (now near) (now coef) (now volumes) (now passive) (now x)) e) × (sum .b ≡ sumTo (part (at .bend) (now starts) (now near) (now coef) (now volumes) (now passive) (now y)) e) ⌝ }
+    ensures { λ r. ⌜ (r .a ≡ sumTo (part (at .bend) (now (starts .entry)) (now (near .entry)) (now (coef .entry)) (now (volumes .entry)) (now (passive .entry)) (now (x .entry))) (e + 4)) × (r .b ≡ sumTo (part (at .bend) (now (starts .entry)) (now (near .entry)) (now (coef .entry)) (now (volumes .entry)) (now (passive .entry)) (now (y .entry))) (e + 4)) ⌝ }
 {
     let n = passive.len();
-    let beta = at.beta;
+    let bend = at.bend;
     let f = e + 1usize;
     let g = e + 2usize;
     let h = e + 3usize;
-    let p = place(beta, starts, near, coef, x, y, n, e);
-    let q = place(beta, starts, near, coef, x, y, n, f);
-    let r = place(beta, starts, near, coef, x, y, n, g);
-    let s = place(beta, starts, near, coef, x, y, n, h);
+    let p = place(bend, starts, near, coef, x, y, n, e);
+    let q = place(bend, starts, near, coef, x, y, n, f);
+    let r = place(bend, starts, near, coef, x, y, n, g);
+    let s = place(bend, starts, near, coef, x, y, n, h);
     let t = ieee_lanes::tanh_each(p.a, p.b, q.a, q.b, r.a, r.b, s.a, s.b);
     let a = grown(at, passive, volumes, e, t.a, sum.a);
     let b = grown(at, passive, volumes, e, t.b, sum.b);
@@ -131,13 +133,13 @@ fn one(
     e: usize,
     sum: Two,
 ) -> Two
-    requires { ⌜ (at .below ≡ belowOf (at .beta)) × (at .whole ≡ wholeOf (at .beta)) ⌝ }
+    requires { ⌜ (at .below ≡ belowOf (at .bend)) × (at .whole ≡ wholeOf (at .bend)) ⌝ }
     requires { ⌜ Wf (now starts) (now near) (now coef) (length (now passive)) (length (now x)) × (length (now y) ≡ length (now x)) × (e < length (now passive)) × (e < length (now volumes)) ⌝ }
-    requires { ⌜ (sum .a ≡ sumTo (part (at .beta) (now starts) (now near) (now coef) (now volumes) (now passive) (now x)) e) × (sum .b ≡ sumTo (part (at .beta) (now starts) (now near) (now coef) (now volumes) (now passive) (now y)) e) ⌝ }
-    ensures { λ r. ⌜ (r .a ≡ sumTo (part (at .beta) (now (starts .entry)) (now (near .entry)) (now (coef .entry)) (now (volumes .entry)) (now (passive .entry)) (now (x .entry))) (e + 1)) × (r .b ≡ sumTo (part (at .beta) (now (starts .entry)) (now (near .entry)) (now (coef .entry)) (now (volumes .entry)) (now (passive .entry)) (now (y .entry))) (e + 1)) ⌝ }
+    requires { ⌜ (sum .a ≡ sumTo (part (at .bend) (now starts) (now near) (now coef) (now volumes) (now passive) (now x)) e) × (sum .b ≡ sumTo (part (at .bend) (now starts) (now near) (now coef) (now volumes) (now passive) (now y)) e) ⌝ }
+    ensures { λ r. ⌜ (r .a ≡ sumTo (part (at .bend) (now (starts .entry)) (now (near .entry)) (now (coef .entry)) (now (volumes .entry)) (now (passive .entry)) (now (x .entry))) (e + 1)) × (r .b ≡ sumTo (part (at .bend) (now (starts .entry)) (now (near .entry)) (now (coef .entry)) (now (volumes .entry)) (now (passive .entry)) (now (y .entry))) (e + 1)) ⌝ }
 {
-    let beta = at.beta;
-    let p = place(beta, starts, near, coef, x, y, passive.len(), e);
+    let bend = at.bend;
+    let p = place(bend, starts, near, coef, x, y, passive.len(), e);
     let a = grown(at, passive, volumes, e, ieee_tanh::tanh(p.a), sum.a);
     let b = grown(at, passive, volumes, e, ieee_tanh::tanh(p.b), sum.b);
     Two { a, b }
@@ -145,7 +147,7 @@ fn one(
 
 // Internal: the table is well formed, and the designs have one length.
 pub fn kept(
-    beta: f64,
+    bend: Bend,
     starts: &[u32],
     near: &[u32],
     coef: &[f64],
@@ -155,9 +157,9 @@ pub fn kept(
     y: &[f64],
 ) -> Two
     requires { ⌜ Wf (now starts) (now near) (now coef) (length (now passive)) (length (now x)) × (length (now y) ≡ length (now x)) ⌝ }
-    ensures { λ r. ⌜ (r .a ≡ dot (now (volumes .entry)) (seenDensity (At beta) (now (starts .entry)) (now (near .entry)) (now (coef .entry)) (now (passive .entry)) (now (x .entry)))) × (r .b ≡ dot (now (volumes .entry)) (seenDensity (At beta) (now (starts .entry)) (now (near .entry)) (now (coef .entry)) (now (passive .entry)) (now (y .entry)))) ⌝ }
+    ensures { λ r. ⌜ (r .a ≡ dot (now (volumes .entry)) (seenDensity (At bend) (now (starts .entry)) (now (near .entry)) (now (coef .entry)) (now (passive .entry)) (now (x .entry)))) × (r .b ≡ dot (now (volumes .entry)) (seenDensity (At bend) (now (starts .entry)) (now (near .entry)) (now (coef .entry)) (now (passive .entry)) (now (y .entry)))) ⌝ }
 {
-    let at = oc_project::at_steepness(beta);
+    let at = oc_project::at_bend(bend);
     let n = lists::lesser(volumes.len(), passive.len());
     let mut sum = Two { a: 0.0, b: 0.0 };
     let mut e = 0usize;

@@ -17,16 +17,16 @@ use Rattle.oc_kept.proofs.sharpen.Statement.{statement}
 use Rattle.oc_kept.proofs.sharpen.Tie as tie
 
 abbrev Inv-loop : tie.InvT-loop
-Inv-loop beta passive density₀ at i₀ density i =
+Inv-loop passive density₀ at i₀ density i =
     (i ≤ length passive)
     × (length density ≡ length density₀)
-    × (density ≡ overwrite (λ e. elementDensity (At beta) (getD passive e false) (getD density₀ e nan)) i density₀)
+    × (density ≡ overwrite (λ e. elementDensity (At (at .bend)) (getD passive e false) (getD density₀ e nan)) i density₀)
 
 abbrev μ-loop : tie.MeasureT-loop
-μ-loop beta passive density₀ at i₀ density i = length passive - i
+μ-loop passive density₀ at i₀ density i = length passive - i
 
-at-steepness-requires : tie.Need-at-steepness-requires Inv-loop μ-loop
-at-steepness-requires c κs = search needs
+at-bend-requires : tie.Need-at-bend-requires Inv-loop μ-loop
+at-bend-requires c κs = search needs
 
 loop-holds : tie.Need-loop-holds Inv-loop μ-loop
 loop-holds c = (search needs, refl, sym (overwrite-none _ _))
@@ -42,7 +42,7 @@ clamp-requires c κs = search needs
 
 project-requires : tie.Need-project-requires Inv-loop μ-loop
 project-requires c κs =
-    let e = c .before .before .before .before .«at-steepness» .ensures in
+    let e = c .before .before .before .before .«at-bend» .ensures in
     (e .1 ∙ ap belowOf (sym (e .0)), e .2 ∙ ap wholeOf (sym (e .0)))
 
 shared-slice-read-either : tie.Need-shared-slice-read-either Inv-loop μ-loop
@@ -67,11 +67,10 @@ loop-again : tie.Need-loop-again Inv-loop μ-loop
 unfolding sharpened elementDensity
 loop-again c =
     let l = c .before .before .before .before .before .before .loop in
-    let e = c .before .before .before .before .before .before .before .«at-steepness» .ensures .0 in
     let v = c .before .before .before .clamp .ensures ∙ ap clampOf (unwritten _ _ _ _ (l .inv .2) nan) in (
       search needs,
       search needs,
-      stored _ _ _ _ (l .inv .2) _ (omega arith) (c .either .ensures ∙ ap (choose _ one64) (c .before .before .project .ensures .0 ∙ (λ i. projected (e i) (v i)))),
+      stored _ _ _ _ (l .inv .2) _ (omega arith) (c .either .ensures ∙ ap (choose _ one64) (c .before .before .project .ensures .0 ∙ ap (projected _) v)),
     )
 
 same-length : tie.Need-same-length Inv-loop μ-loop
@@ -79,7 +78,7 @@ same-length c = search needs
 
 returns : tie.Need-returns Inv-loop μ-loop
 unfolding densities
-returns c = filled _ _ _ _ (c .before .loop .inv .2) _ (omega arith) (omega arith)
+returns c = rw (sym (c .before .before .«at-bend» .ensures .0)) (filled _ _ _ _ (c .before .loop .inv .2) _ (omega arith) (omega arith))
 
 pub sharpen-spec : {M : Type 1} → statement M
 sharpen-spec =
@@ -87,7 +86,7 @@ sharpen-spec =
     (tie.spec
     Inv-loop
     μ-loop
-    at-steepness-requires
+    at-bend-requires
     loop-holds
     mul-clamp
     slice-read-clamp

@@ -17,18 +17,18 @@ use Rattle.oc_seen.proofs.see_sharpened.Statement.{statement}
 use Rattle.oc_seen.proofs.see_sharpened.Tie as tie
 
 abbrev Inv-loop : tie.InvT-loop
-Inv-loop beta passive density₀ slope₀ at i₀ density slope i =
+Inv-loop passive density₀ slope₀ at i₀ density slope i =
     (i ≤ length passive)
     × (length density ≡ length density₀)
     × (length slope ≡ length slope₀)
-    × (density ≡ overwrite (λ e. elementDensity (At beta) (getD passive e false) (getD density₀ e nan)) i density₀)
-    × (slope ≡ overwrite (λ e. elementSlope (At beta) (getD passive e false) (getD density₀ e nan)) i slope₀)
+    × (density ≡ overwrite (λ e. elementDensity (At (at .bend)) (getD passive e false) (getD density₀ e nan)) i density₀)
+    × (slope ≡ overwrite (λ e. elementSlope (At (at .bend)) (getD passive e false) (getD density₀ e nan)) i slope₀)
 
 abbrev μ-loop : tie.MeasureT-loop
-μ-loop beta passive density₀ slope₀ at i₀ density slope i = length passive - i
+μ-loop passive density₀ slope₀ at i₀ density slope i = length passive - i
 
-at-steepness-requires : tie.Need-at-steepness-requires Inv-loop μ-loop
-at-steepness-requires c κs = search needs
+at-bend-requires : tie.Need-at-bend-requires Inv-loop μ-loop
+at-bend-requires c κs = search needs
 
 loop-holds : tie.Need-loop-holds Inv-loop μ-loop
 loop-holds c = (search needs, refl, refl, sym (overwrite-none _ _), sym (overwrite-none _ _))
@@ -44,7 +44,7 @@ clamp-requires c κs = search needs
 
 project-requires : tie.Need-project-requires Inv-loop μ-loop
 project-requires c κs =
-    let e = c .before .before .before .before .«at-steepness» .ensures in
+    let e = c .before .before .before .before .«at-bend» .ensures in
     (e .1 ∙ ap belowOf (sym (e .0)), e .2 ∙ ap wholeOf (sym (e .0)))
 
 shared-slice-read-held : tie.Need-shared-slice-read-held Inv-loop μ-loop
@@ -78,13 +78,12 @@ loop-again : tie.Need-loop-again Inv-loop μ-loop
 unfolding sharpened sharpenedSlope elementDensity elementSlope
 loop-again c =
     let l = c .before .before .before .before .before .before .before .loop in
-    let e = c .before .before .before .before .before .before .before .before .«at-steepness» .ensures .0 in
     let v = c .before .before .before .before .clamp .ensures ∙ ap clampOf (unwritten _ _ _ _ (l .inv .3) nan) in (
       search needs,
       search needs,
       search needs,
-      stored _ _ _ _ (l .inv .3) _ (omega arith) (c .before .either .ensures ∙ ap (choose _ one64) (c .before .before .before .project .ensures .0 ∙ (λ i. projected (e i) (v i)))),
-      stored _ _ _ _ (l .inv .4) _ (omega arith) (c .either2 .ensures ∙ ap (choose _ zero64) (c .before .before .before .project .ensures .1 ∙ (λ i. projectedSlope (e i) (v i)))),
+      stored _ _ _ _ (l .inv .3) _ (omega arith) (c .before .either .ensures ∙ ap (choose _ one64) (c .before .before .before .project .ensures .0 ∙ ap (projected _) v)),
+      stored _ _ _ _ (l .inv .4) _ (omega arith) (c .either2 .ensures ∙ ap (choose _ zero64) (c .before .before .before .project .ensures .1 ∙ ap (projectedSlope _) v)),
     )
 
 same-length : tie.Need-same-length Inv-loop μ-loop
@@ -95,7 +94,9 @@ same-length-2 c = search needs
 
 returns : tie.Need-returns Inv-loop μ-loop
 unfolding densities slopes
-returns c = (filled _ _ _ _ (c .before .loop .inv .3) _ (omega arith) (omega arith), filled _ _ _ _ (c .before .loop .inv .4) _ (omega arith) (omega arith))
+returns c =
+    rw (sym (c .before .before .«at-bend» .ensures .0))
+    (filled _ _ _ _ (c .before .loop .inv .3) _ (omega arith) (omega arith), filled _ _ _ _ (c .before .loop .inv .4) _ (omega arith) (omega arith))
 
 pub see-sharpened-spec : {M : Type 1} → statement M
 see-sharpened-spec =
@@ -103,7 +104,7 @@ see-sharpened-spec =
     (tie.spec
     Inv-loop
     μ-loop
-    at-steepness-requires
+    at-bend-requires
     loop-holds
     mul-clamp
     slice-read-clamp

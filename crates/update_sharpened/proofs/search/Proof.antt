@@ -22,25 +22,25 @@ abbrev rest : Given → Float → Float → Float → ℕ → Search
 rest g low high rate passes = whileTo (halves g) (halved g) (200 - passes) (standAt g low high rate passes)
 
 abbrev Inv-loop : tie.InvT-loop
-Inv-loop x gain dv passive m target tolerance beta starts near coef volumes first design₀ work₀ low₀ most₀ high₀ least₀ rate₀ at₀ off₀ passes₀ design work low most high least rate at off passes =
+Inv-loop x gain dv passive m target tolerance bend starts near coef volumes first design₀ work₀ low₀ most₀ high₀ least₀ rate₀ at₀ off₀ passes₀ design work low most high least rate at off passes =
     (passes ≤ 200)
     × (length design ≡ length design₀)
     × (length work ≡ length work₀)
-    × (off ≡ offAt (given x gain dv passive m target tolerance (Sharpened beta) starts near coef volumes) rate)
-    × (at .kept ≡ reckoned (given x gain dv passive m target tolerance (Sharpened beta) starts near coef volumes) (trial (given x gain dv passive m target tolerance (Sharpened beta) starts near coef volumes) rate))
-    × (at .one ≡ reckoned (given x gain dv passive m target tolerance (Sharpened beta) starts near coef volumes) design)
-    × (at .two ≡ reckoned (given x gain dv passive m target tolerance (Sharpened beta) starts near coef volumes) work)
-    × (work ≡ trial (given x gain dv passive m target tolerance (Sharpened beta) starts near coef volumes) (at .next))
-    × (rest (given x gain dv passive m target tolerance (Sharpened beta) starts near coef volumes) low high rate passes ≡ rest (given x gain dv passive m target tolerance (Sharpened beta) starts near coef volumes) zero64 first first 1)
+    × (off ≡ offAt (given x gain dv passive m target tolerance (Sharpened bend) starts near coef volumes) rate)
+    × (at .kept ≡ reckoned (given x gain dv passive m target tolerance (Sharpened bend) starts near coef volumes) (trial (given x gain dv passive m target tolerance (Sharpened bend) starts near coef volumes) rate))
+    × (at .one ≡ reckoned (given x gain dv passive m target tolerance (Sharpened bend) starts near coef volumes) design)
+    × (at .two ≡ reckoned (given x gain dv passive m target tolerance (Sharpened bend) starts near coef volumes) work)
+    × (work ≡ trial (given x gain dv passive m target tolerance (Sharpened bend) starts near coef volumes) (at .next))
+    × (rest (given x gain dv passive m target tolerance (Sharpened bend) starts near coef volumes) low high rate passes ≡ rest (given x gain dv passive m target tolerance (Sharpened bend) starts near coef volumes) zero64 first first 1)
 
 abbrev μ-loop : tie.MeasureT-loop
-μ-loop x gain dv passive m target tolerance beta starts near coef volumes first design₀ work₀ low₀ most₀ high₀ least₀ rate₀ at₀ off₀ passes₀ design work low most high least rate at off passes = 200 - passes
+μ-loop x gain dv passive m target tolerance bend starts near coef volumes first design₀ work₀ low₀ most₀ high₀ least₀ rate₀ at₀ off₀ passes₀ design work low most high least rate at off passes = 200 - passes
 
 -- what is given, by the function's entry
 abbrev G : (a : tie.Start Inv-loop μ-loop) → Given
 G s =
     let a = s .args in
-    given (now (a .x)) (now (a .gain)) (now (a .dv)) (now (a .passive)) (a .m) (a .target) (a .tolerance) (Sharpened (a .beta)) (now (a .starts)) (now (a .near)) (now (a .coef)) (now (a .volumes))
+    given (now (a .x)) (now (a .gain)) (now (a .dv)) (now (a .passive)) (a .m) (a .target) (a .tolerance) (Sharpened (a .bend)) (now (a .starts)) (now (a .near)) (now (a .coef)) (now (a .volumes))
 
 abs-requires : tie.Need-abs-requires Inv-loop μ-loop
 abs-requires c κs = search needs

@@ -47,7 +47,7 @@ unfolding trial reckoned keptOf
 search-requires c κs =
     let a = c .before .before .before .before .before .before .before .before .before .before .before .before .before .before .before .before .before .before .before .before .before .before .before .before .before .before .before .args in
     let p = c .before .before .before .before .before .before .before .before .before .before .before .before .before .before .before .before .before .before .before .before .before .before .before .before .before .before .before .pre .0 in
-    let g : Given = given (now (a .x)) (now (a .gain)) (now (a .dv)) (now (a .passive)) (a .m) (a .target) (a .tolerance) (Sharpened (a .beta)) (now (a .starts)) (now (a .near)) (now (a .coef)) (now (a .volumes)) in
+    let g : Given = given (now (a .x)) (now (a .gain)) (now (a .dv)) (now (a .passive)) (a .m) (a .target) (a .tolerance) (Sharpened (a .bend)) (now (a .starts)) (now (a .near)) (now (a .coef)) (now (a .volumes)) in
     let k = c .before .before .before .before .kept .ensures in
     let d = c .before .before .before .before .before .before .before .before .before .before .before .before .before .«design-at» in
     let w = c .before .before .before .before .before .before .before .before .before .«design-at2» in
@@ -68,7 +68,7 @@ returns-2 : tie.Need-returns-2
 unfolding trial reckoned keptOf more
 returns-2 c =
     let a = c .before .before .before .before .before .before .before .before .before .before .before .before .before .before .before .before .before .before .before .before .before .before .before .before .before .before .before .before .before .before .before .before .before .before .before .before .args in
-    let g : Given = given (now (a .x)) (now (a .gain)) (now (a .dv)) (now (a .passive)) (a .m) (a .target) (a .tolerance) (Sharpened (a .beta)) (now (a .starts)) (now (a .near)) (now (a .coef)) (now (a .volumes)) in
+    let g : Given = given (now (a .x)) (now (a .gain)) (now (a .dv)) (now (a .passive)) (a .m) (a .target) (a .tolerance) (Sharpened (a .bend)) (now (a .starts)) (now (a .near)) (now (a .coef)) (now (a .volumes)) in
     let k = c .before .before .before .before .before .before .before .before .before .before .before .before .before .kept .ensures .0 ∙ ap (reckoned g) (c .before .before .before .before .before .before .before .before .before .before .before .before .before .before .before .before .before .before .before .before .before .before .«design-at» .ensures) in
     let s = c .before .before .before .before .before .before .before .before .search .ensures in
     let d = c .before .before .«design-at3» .ensures in

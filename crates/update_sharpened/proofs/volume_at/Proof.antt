@@ -18,7 +18,7 @@ returns : tie.Need-returns
 returns c =
     let s = c .before .before .before .before .before .before .before .before .before .before .before in
     let a = s .args in
-    let g : Given = given (now (a .x)) (now (a .gain)) (now (a .dv)) (now (a .passive)) (a .m) (a .target) (a .tolerance) (Sharpened (a .beta)) (now (a .starts)) (now (a .near)) (now (a .coef)) (now (a .volumes)) in
+    let g : Given = given (now (a .x)) (now (a .gain)) (now (a .dv)) (now (a .passive)) (a .m) (a .target) (a .tolerance) (Sharpened (a .bend)) (now (a .starts)) (now (a .near)) (now (a .coef)) (now (a .volumes)) in
     let q = s .pre .1 .1 in
     let t = both (eq (a .rate) (a .ahead)) (ne (a .rate) zero64) (c .if1 .taken) in
     let e = eq-same (a .rate) (a .ahead) (holds (fits binary64 (a .rate)) (s .good .1 .1 .1 .1 .1 .1 .1 .1 .1 .1 .1 .1 .0 .1)) (holds (fits binary64 (a .ahead)) (s .good .1 .1 .1 .1 .1 .1 .1 .1 .1 .1 .1 .1 .1 .1 .0 .1)) (t .0) (t .1) in
@@ -41,7 +41,7 @@ unfolding trial
 returns-2 c =
     let s = c .before .before .before .before .before .before .before .before .before .before .before .before .before .before .before .before .before .before .before .before in
     let a = s .args in
-    let g : Given = given (now (a .x)) (now (a .gain)) (now (a .dv)) (now (a .passive)) (a .m) (a .target) (a .tolerance) (Sharpened (a .beta)) (now (a .starts)) (now (a .near)) (now (a .coef)) (now (a .volumes)) in
+    let g : Given = given (now (a .x)) (now (a .gain)) (now (a .dv)) (now (a .passive)) (a .m) (a .target) (a .tolerance) (Sharpened (a .bend)) (now (a .starts)) (now (a .near)) (now (a .coef)) (now (a .volumes)) in
     let q = s .pre .1 .1 in
     let d = c .before .before .before .before .before .before .before .«design-again» in
     let w = c .before .before .before .«design-again2» in
@@ -67,7 +67,7 @@ unfolding trial reckoned keptOf
 returns-3 c =
     let k = c .kept .ensures in
     let a = c .before .before .before .before .before .before .before .before .before .before .before .before .before .before .before .before .before .before .before .before .before .before .before .args in
-    let g : Given = given (now (a .x)) (now (a .gain)) (now (a .dv)) (now (a .passive)) (a .m) (a .target) (a .tolerance) (Sharpened (a .beta)) (now (a .starts)) (now (a .near)) (now (a .coef)) (now (a .volumes)) in
+    let g : Given = given (now (a .x)) (now (a .gain)) (now (a .dv)) (now (a .passive)) (a .m) (a .target) (a .tolerance) (Sharpened (a .bend)) (now (a .starts)) (now (a .near)) (now (a .coef)) (now (a .volumes)) in
     let d = c .before .before .before .before .before .before .before .before .before .before .«design-again» .ensures .0 in
     (k .0 ∙ ap (reckoned g) d, k .0, k .1, c .before .before .before .before .before .before .«design-again2» .ensures .0)
 

@@ -1,7 +1,7 @@
 -- `update_two::kept` meets its contract. The invariant: the sums are those of the elements passed. Assumes nothing.
 use borrow.Author.Needs.{needs}
 use mathlib.Core.Path.{_≡_, sym, ap, _∙_}
-use Prim.Native.Nat.{_+_, _-_, _≤_}
+use Prim.Native.Nat.{_-_, _≤_}
 use native.Mathlib.Nat.{le-antisymm}
 use native.Mathlib.Omega.{arith}
 use denote.Ref.{now}
@@ -9,24 +9,24 @@ use Rattle.lists.specs.Lists.{sumTo}
 use Rattle.lists.proofs.Laws.{sumTo-none}
 use Rattle.oc_project.specs.Project.{belowOf, wholeOf}
 use Rattle.update_two.specs.Part.{part}
-use Rattle.update_two.proofs.Laws.{part-at, parts-are}
+use Rattle.update_two.proofs.Laws.{parts-are}
 use Rattle.update_two.proofs.kept.Statement.{statement}
 use Rattle.update_two.proofs.kept.Tie as tie
 
 abbrev Inv-loop : tie.InvT-loop
-Inv-loop beta starts near coef volumes passive x y at n sum₀ e₀ sum e = (e ≤ n) × (sum .a ≡ sumTo (part beta starts near coef volumes passive x) e) × (sum .b ≡ sumTo (part beta starts near coef volumes passive y) e)
+Inv-loop starts near coef volumes passive x y at n sum₀ e₀ sum e = (e ≤ n) × (sum .a ≡ sumTo (part (at .bend) starts near coef volumes passive x) e) × (sum .b ≡ sumTo (part (at .bend) starts near coef volumes passive y) e)
 
 abbrev μ-loop : tie.MeasureT-loop
-μ-loop beta starts near coef volumes passive x y at n sum₀ e₀ sum e = n - e
+μ-loop starts near coef volumes passive x y at n sum₀ e₀ sum e = n - e
 
 abbrev Inv-loop2 : tie.InvT-loop2
-Inv-loop2 beta starts near coef volumes passive x y at n sum₀ e₀ sum e = (e ≤ n) × (sum .a ≡ sumTo (part beta starts near coef volumes passive x) e) × (sum .b ≡ sumTo (part beta starts near coef volumes passive y) e)
+Inv-loop2 starts near coef volumes passive x y at n sum₀ e₀ sum e = (e ≤ n) × (sum .a ≡ sumTo (part (at .bend) starts near coef volumes passive x) e) × (sum .b ≡ sumTo (part (at .bend) starts near coef volumes passive y) e)
 
 abbrev μ-loop2 : tie.MeasureT-loop2
-μ-loop2 beta starts near coef volumes passive x y at n sum₀ e₀ sum e = n - e
+μ-loop2 starts near coef volumes passive x y at n sum₀ e₀ sum e = n - e
 
-at-steepness-requires : tie.Need-at-steepness-requires Inv-loop μ-loop Inv-loop2 μ-loop2
-at-steepness-requires c κs = search needs
+at-bend-requires : tie.Need-at-bend-requires Inv-loop μ-loop Inv-loop2 μ-loop2
+at-bend-requires c κs = search needs
 
 lesser-requires : tie.Need-lesser-requires Inv-loop μ-loop Inv-loop2 μ-loop2
 lesser-requires c κs = search needs
@@ -40,17 +40,13 @@ add-loop c = search needs
 four-requires : tie.Need-four-requires Inv-loop μ-loop Inv-loop2 μ-loop2
 four-requires c κs =
     let s = c .before .before .before .before .before .before .before .before .before .before .before in
-    let a = s .args in
-    let e = c .before .before .before .«at-steepness» .ensures in
+    let e = c .before .before .before .«at-bend» .ensures in
     let n = c .before .before .lesser .ensures in
     let l = c .before .loop in (
       (e .1 ∙ ap belowOf (sym (e .0)), e .2 ∙ ap wholeOf (sym (e .0))),
       (
         (s .pre .0, s .pre .1, omega (arith, n), omega (arith, n)),
-        (
-          l .inv .1 ∙ sym (part-at (a .beta) (now (a .starts)) (now (a .near)) (now (a .coef)) (now (a .volumes)) (now (a .passive)) (now (a .x)) _ (l .e) (e .0)),
-          l .inv .2 ∙ sym (part-at (a .beta) (now (a .starts)) (now (a .near)) (now (a .coef)) (now (a .volumes)) (now (a .passive)) (now (a .y)) _ (l .e) (e .0)),
-        ),
+        (l .inv .1, l .inv .2),
       ),
     )
 
@@ -62,13 +58,7 @@ loop-less c = search needs
 
 loop-again : tie.Need-loop-again Inv-loop μ-loop Inv-loop2 μ-loop2
 loop-again c =
-    let a = c .before .before .before .before .before .before .before .before .before .before .before .before .args in
-    let e = c .before .before .before .before .«at-steepness» .ensures .0 in
-    let l = c .before .before .loop in (
-      omega arith,
-      c .four .ensures .0 ∙ part-at (a .beta) (now (a .starts)) (now (a .near)) (now (a .coef)) (now (a .volumes)) (now (a .passive)) (now (a .x)) _ (l .e + 4) e,
-      c .four .ensures .1 ∙ part-at (a .beta) (now (a .starts)) (now (a .near)) (now (a .coef)) (now (a .volumes)) (now (a .passive)) (now (a .y)) _ (l .e + 4) e,
-    )
+    (omega arith, c .four .ensures .0, c .four .ensures .1)
 
 loop2-holds : tie.Need-loop2-holds Inv-loop μ-loop Inv-loop2 μ-loop2
 loop2-holds c = c .before .loop .inv
@@ -76,17 +66,13 @@ loop2-holds c = c .before .loop .inv
 one-requires : tie.Need-one-requires Inv-loop μ-loop Inv-loop2 μ-loop2
 one-requires c κs =
     let s = c .before .before .before .before .before .before .before .before .before .before .before .before .before in
-    let a = s .args in
-    let e = c .before .before .before .before .before .«at-steepness» .ensures in
+    let e = c .before .before .before .before .before .«at-bend» .ensures in
     let n = c .before .before .before .before .lesser .ensures in
     let l = c .before .loop2 in (
       (e .1 ∙ ap belowOf (sym (e .0)), e .2 ∙ ap wholeOf (sym (e .0))),
       (
         (s .pre .0, s .pre .1, omega (arith, n), omega (arith, n)),
-        (
-          l .inv .1 ∙ sym (part-at (a .beta) (now (a .starts)) (now (a .near)) (now (a .coef)) (now (a .volumes)) (now (a .passive)) (now (a .x)) _ (l .e) (e .0)),
-          l .inv .2 ∙ sym (part-at (a .beta) (now (a .starts)) (now (a .near)) (now (a .coef)) (now (a .volumes)) (now (a .passive)) (now (a .y)) _ (l .e) (e .0)),
-        ),
+        (l .inv .1, l .inv .2),
       ),
     )
 
@@ -98,21 +84,16 @@ loop2-less c = search needs
 
 loop2-again : tie.Need-loop2-again Inv-loop μ-loop Inv-loop2 μ-loop2
 loop2-again c =
-    let a = c .before .before .before .before .before .before .before .before .before .before .before .before .before .before .args in
-    let e = c .before .before .before .before .before .before .«at-steepness» .ensures .0 in
-    let l = c .before .before .loop2 in (
-      omega arith,
-      c .one .ensures .0 ∙ part-at (a .beta) (now (a .starts)) (now (a .near)) (now (a .coef)) (now (a .volumes)) (now (a .passive)) (now (a .x)) _ (l .e + 1) e,
-      c .one .ensures .1 ∙ part-at (a .beta) (now (a .starts)) (now (a .near)) (now (a .coef)) (now (a .volumes)) (now (a .passive)) (now (a .y)) _ (l .e + 1) e,
-    )
+    (omega arith, c .one .ensures .0, c .one .ensures .1)
 
 returns : tie.Need-returns Inv-loop μ-loop Inv-loop2 μ-loop2
 returns c =
     let a = c .before .before .before .before .before .before .before .before .before .before .before .before .before .args in
     let l = c .before .loop2 in
-    let n = le-antisymm (l .inv .0) (omega arith) ∙ c .before .before .before .before .lesser .ensures in (
-      l .inv .1 ∙ ap (sumTo _) n ∙ parts-are (a .beta) (now (a .starts)) (now (a .near)) (now (a .coef)) (now (a .volumes)) (now (a .passive)) (now (a .x)),
-      l .inv .2 ∙ ap (sumTo _) n ∙ parts-are (a .beta) (now (a .starts)) (now (a .near)) (now (a .coef)) (now (a .volumes)) (now (a .passive)) (now (a .y)),
+    let n = le-antisymm (l .inv .0) (omega arith) ∙ c .before .before .before .before .lesser .ensures in
+    rw (sym (c .before .before .before .before .before .«at-bend» .ensures .0)) (
+      l .inv .1 ∙ ap (sumTo _) n ∙ parts-are _ (now (a .starts)) (now (a .near)) (now (a .coef)) (now (a .volumes)) (now (a .passive)) (now (a .x)),
+      l .inv .2 ∙ ap (sumTo _) n ∙ parts-are _ (now (a .starts)) (now (a .near)) (now (a .coef)) (now (a .volumes)) (now (a .passive)) (now (a .y)),
     )
 
 pub kept-spec : {M : Type 1} → statement M
@@ -123,7 +104,7 @@ kept-spec =
     μ-loop
     Inv-loop2
     μ-loop2
-    at-steepness-requires
+    at-bend-requires
     lesser-requires
     loop-holds
     add-loop

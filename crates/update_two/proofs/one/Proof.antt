@@ -23,11 +23,11 @@ grown-requires-2 c κs = search needs
 
 returns : tie.Need-returns
 returns c =
-    let a = c .before .before .before .before .before .before .before .before .before .before .before .before .args in
-    let p = c .before .before .before .before .before .before .before .before .before .before .before .before .pre in
+    let a = c .before .before .before .before .before .before .before .before .before .before .before .before .before .args in
+    let p = c .before .before .before .before .before .before .before .before .before .before .before .before .before .pre in
     let z = c .before .before .before .before .place .ensures in (
-      part-more (a .at .beta) (now (a .starts)) (now (a .near)) (now (a .coef)) (now (a .volumes)) (now (a .passive)) (now (a .x)) (a .e) _ _ _ _ _ _ _ refl (p .0 .0) (p .0 .1) (z .0) (c .before .before .before .tanh .ensures) (p .1 .1 .0) (c .before .before .grown .ensures),
-      part-more (a .at .beta) (now (a .starts)) (now (a .near)) (now (a .coef)) (now (a .volumes)) (now (a .passive)) (now (a .y)) (a .e) _ _ _ _ _ _ _ refl (p .0 .0) (p .0 .1) (z .1) (c .before .tanh2 .ensures) (p .1 .1 .1) (c .grown2 .ensures),
+      part-more (a .at .bend) (now (a .starts)) (now (a .near)) (now (a .coef)) (now (a .volumes)) (now (a .passive)) (now (a .x)) (a .e) _ _ _ _ _ _ _ refl (p .0 .0) (p .0 .1) (z .0) (c .before .before .before .tanh .ensures) (p .1 .1 .0) (c .before .before .grown .ensures),
+      part-more (a .at .bend) (now (a .starts)) (now (a .near)) (now (a .coef)) (now (a .volumes)) (now (a .passive)) (now (a .y)) (a .e) _ _ _ _ _ _ _ refl (p .0 .0) (p .0 .1) (z .1) (c .before .tanh2 .ensures) (p .1 .1 .1) (c .grown2 .ensures),
     )
 
 pub one-spec : {M : Type 1} → statement M

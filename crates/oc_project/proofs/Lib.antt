@@ -1,2 +1,0 @@
--- `Cases` has 01's proved case.
-pub mod Cases
