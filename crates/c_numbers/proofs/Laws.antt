@@ -86,4 +86,4 @@ state-passes s = (
 -- "Kept": a state that passes and is given back is as before
 pub state-kept : (s : RunState) → s .phase ≤ 2 → stateNumbers (stateOf s) ≡ s
 unfolding stateOf stateNumbers
-state-kept s p = λ i. record { phase = number-back (s .phase) p i; elements = s .elements; entries = s .entries; fraction = s .fraction; sharpen = s .sharpen; «max_iterations» = s .«max_iterations»; rounds = s .rounds; stage = s .stage; «at_stage» = s .«at_stage»; steady = s .steady; «solid_compliance» = s .«solid_compliance»; compliance = s .compliance }
+state-kept s p = λ i. record { phase = number-back (s .phase) p i; elements = s .elements; entries = s .entries; fraction = s .fraction; sharpen = s .sharpen; «max_iterations» = s .«max_iterations»; «project_at» = s .«project_at»; rounds = s .rounds; stage = s .stage; «at_stage» = s .«at_stage»; steady = s .steady; «solid_compliance» = s .«solid_compliance»; compliance = s .compliance }

@@ -41,7 +41,7 @@ unfoldable pub saidOf : ℕ → Said
 saidOf n = choose (eqb n 0) Gave (choose (eqb n 1) Failed Halted)
 
 unfoldable pub goalOf : RunGoal → Goal
-goalOf g = record { fraction = g .fraction; radius = g .radius; sharpen = g .sharpen; «max_iterations» = g .«max_iterations» }
+goalOf g = record { fraction = g .fraction; radius = g .radius; sharpen = g .sharpen; «max_iterations» = g .«max_iterations»; «project_at» = g .«project_at» }
 
 unfoldable pub heardOf : RunHeard → Heard
 heardOf h = record { said = saidOf (h .said); flag = h .flag; elapsed = h .elapsed; allowed = h .allowed }
@@ -50,7 +50,7 @@ unfoldable pub stateOf : RunState → State
 stateOf s =
     record {
       phase = phaseOf (s .phase);
-      setting = record { elements = s .elements; entries = s .entries; fraction = s .fraction; sharpen = s .sharpen; «max_iterations» = s .«max_iterations» };
+      setting = record { elements = s .elements; entries = s .entries; fraction = s .fraction; sharpen = s .sharpen; «max_iterations» = s .«max_iterations»; «project_at» = s .«project_at» };
       progress = record { rounds = s .rounds; stage = s .stage; «at_stage» = s .«at_stage»; steady = s .steady };
       compliances = record { solid = s .«solid_compliance»; last = s .compliance };
     }
@@ -64,6 +64,7 @@ stateNumbers s =
       fraction = s .setting .fraction;
       sharpen = s .setting .sharpen;
       «max_iterations» = s .setting .«max_iterations»;
+      «project_at» = s .setting .«project_at»;
       rounds = s .progress .rounds;
       stage = s .progress .stage;
       «at_stage» = s .progress .«at_stage»;

@@ -25,6 +25,7 @@ pub struct RunState {
     pub fraction: f64,
     pub sharpen: bool,
     pub max_iterations: usize,
+    pub project_at: f64,
     pub rounds: usize,
     pub stage: usize,
     pub at_stage: usize,
@@ -33,13 +34,15 @@ pub struct RunState {
     pub compliance: f64,
 }
 
-// What a run is to reach: the share of the volume, the filter's radius, whether it sharpens, and the rounds allowed.
+// What a run is to reach: the share of the volume, the filter's radius, whether it sharpens, the rounds allowed, and the density that sharpening
+// turns about.
 #[repr(C)]
 pub struct RunGoal {
     pub fraction: f64,
     pub radius: f64,
     pub sharpen: bool,
     pub max_iterations: usize,
+    pub project_at: f64,
 }
 
 // What an answer says beside the energies. Said 0: the solver gave them. 1: it failed. Any other number: it stopped. Then whether the run is to stop, and the
@@ -116,6 +119,7 @@ pub fn state_of(s: RunState) -> State
             fraction: s.fraction,
             sharpen: s.sharpen,
             max_iterations: s.max_iterations,
+            project_at: s.project_at,
         },
         progress: Progress {
             rounds: s.rounds,
@@ -138,6 +142,7 @@ pub fn goal_of(g: RunGoal) -> Goal
         radius: g.radius,
         sharpen: g.sharpen,
         max_iterations: g.max_iterations,
+        project_at: g.project_at,
     }
 }
 
@@ -173,6 +178,7 @@ fn state_numbers(s: State) -> RunState
         fraction: s.setting.fraction,
         sharpen: s.setting.sharpen,
         max_iterations: s.setting.max_iterations,
+        project_at: s.setting.project_at,
         rounds: s.progress.rounds,
         stage: s.progress.stage,
         at_stage: s.progress.at_stage,

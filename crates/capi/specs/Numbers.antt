@@ -5,6 +5,8 @@ use Prim.Native.Nat.{ℕ}
 use lib.Dec.{eqb}
 use lib.Ieee.{Float}
 use Rattle.lists.specs.Lists.{choose}
+use Rattle.oc_project.specs.declared.Bend.{Bend}
+use Rattle.oc_project.specs.Project.{bendOf}
 use Rattle.oc_seen.specs.declared.Sharpness.{Sharpness}
 use Rattle.oc_seen.specs.declared.Sharpness.the-variants.{Off, At}
 use Rattle.oc_kept.specs.declared.Rule.{Rule}
@@ -13,13 +15,14 @@ use Rattle.update_rates.specs.Rates.{Given, updated}
 use Rattle.update.specs.declared.Updated.{Updated}
 use Rattle.update_rates.specs.Ending.{endingOf}
 
--- beta counts where the densities are sharpened
-abbrev pub sharpnessOf : Bool → Float → Sharpness
-sharpnessOf sharpen beta = choose sharpen (At beta) Off
+-- the bend counts where the densities are sharpened
+abbrev pub sharpnessOf : Bool → Bend → Sharpness
+sharpnessOf sharpen bend = choose sharpen (At bend) Off
 
--- 0: the volume goes straight with the design, and value is the volume held solid. Any other number: sharpened, at the steepness value
-abbrev pub ruleOf : ℕ → Float → Rule
-ruleOf number value = choose (eqb number 0) (Straight value) (Sharpened value)
+-- 0: the volume goes straight with the design, and value is the volume held solid. Any other number: sharpened, at the steepness value,
+-- turning at `at`
+abbrev pub ruleOf : ℕ → Float → Float → Rule
+ruleOf number value at = choose (eqb number 0) (Straight value) (Sharpened (bendOf value at))
 
 -- what `update` answers
 unfoldable pub answerOf : Given → Updated

@@ -8,7 +8,7 @@ ghost use lib.Ieee.{nan};
 ghost use Rattle.lists.specs.Lists.{sumTo, zero64};
 ghost use Rattle.oc_goal.specs.Goal.{noRoom, targetOf, toleranceOf, startDensity};
 ghost use Rattle.oc_start.specs.Start.{solidVolume, freeVolumes, startDesign};
-ghost use Rattle.oc_project.specs.Project.{projected, projectedSlope};
+ghost use Rattle.oc_project.specs.Project.{bendOf, projected, projectedSlope};
 ghost use Rattle.oc_seen.specs.Seen.{seenDensity, seenSlope};
 ghost use Rattle.oc_slopes.specs.Slopes.{workSlope, volumeSlope};
 ghost use Rattle.oc_kept.specs.Kept.{keptOf};
@@ -17,6 +17,7 @@ ghost use Rattle.capi.specs.Lent.{refusalOf};
 ghost use Rattle.lent.specs.Lent.{unless, leftBy, WorkedBy};
 ghost use Rattle.capi.specs.Numbers.{sharpnessOf, ruleOf};
 use oc_kept::Rule;
+use oc_project::Bend;
 use oc_seen::Sharpness;
 
 #[repr(C)]
@@ -97,30 +98,30 @@ pub extern "C" fn sokdrib_start(
     }
 }
 
-// A filtered density v sharpened at the steepness beta, and how fast it moves with v.
+// A filtered density v sharpened at the steepness beta, turning at project_at, and how fast it moves with v.
 #[no_mangle]
-pub extern "C" fn sokdrib_project(v: f64, beta: f64) -> Projected
-    ensures { λ r. ⌜ (r .density ≡ projected beta v) × (r .slope ≡ projectedSlope beta v) ⌝ }
+pub extern "C" fn sokdrib_project(v: f64, beta: f64, project_at: f64) -> Projected
+    ensures { λ r. ⌜ (r .density ≡ projected (bendOf beta «project_at») v) × (r .slope ≡ projectedSlope (bendOf beta «project_at») v) ⌝ }
 {
-    let p = oc_project::project(oc_project::at_steepness(beta), v);
+    let p = oc_project::project(oc_project::at_bend(Bend { beta, project_at }), v);
     Projected {
         density: p.density,
         slope: p.slope,
     }
 }
 
-fn sharpness(sharpen: bool, beta: f64) -> Sharpness
-    ensures { λ r. ⌜ r ≡ sharpnessOf sharpen beta ⌝ }
+fn sharpness(sharpen: bool, bend: Bend) -> Sharpness
+    ensures { λ r. ⌜ r ≡ sharpnessOf sharpen bend ⌝ }
 {
     if sharpen {
-        Sharpness::At(beta)
+        Sharpness::At(bend)
     } else {
         Sharpness::Off
     }
 }
 
-// What a solve is given from the design x: each element's density, filtered, and sharpened at the steepness beta where sharpen is set,
-// 1 where it is passive; and how fast each moves with its filtered density. Gives 0, 1 or 14.
+// What a solve is given from the design x: each element's density, filtered, and sharpened at the steepness beta, turning at project_at,
+// where sharpen is set, 1 where it is passive; and how fast each moves with its filtered density. Gives 0, 1 or 14.
 #[no_mangle]
 pub extern "C" fn sokdrib_see(
     starts: &[u32],
@@ -130,19 +131,20 @@ pub extern "C" fn sokdrib_see(
     x: &[f64],
     sharpen: bool,
     beta: f64,
+    project_at: f64,
     density: &mut [f64],
     slope: &mut [f64],
 ) -> u32
     ensures { λ r. ⌜ r ≡ refusalOf (not (eqb (length (now (x .entry))) (length (now (passive .entry))))) (ltb (length (now (density .entry))) (length (now (passive .entry))) || ltb (length (now (slope .entry))) (length (now (passive .entry)))) ⌝ }
-    ensures { λ r. ⌜ now (density .exit) ≡ leftBy r (seenDensity (sharpnessOf sharpen beta) (now (starts .entry)) (now (near .entry)) (now (coef .entry)) (now (passive .entry)) (now (x .entry))) (now (density .entry)) ⌝ }
-    ensures { λ r. ⌜ now (slope .exit) ≡ leftBy r (seenSlope (sharpnessOf sharpen beta) (now (starts .entry)) (now (near .entry)) (now (coef .entry)) (now (passive .entry)) (now (x .entry))) (now (slope .entry)) ⌝ }
+    ensures { λ r. ⌜ now (density .exit) ≡ leftBy r (seenDensity (sharpnessOf sharpen (bendOf beta «project_at»)) (now (starts .entry)) (now (near .entry)) (now (coef .entry)) (now (passive .entry)) (now (x .entry))) (now (density .entry)) ⌝ }
+    ensures { λ r. ⌜ now (slope .exit) ≡ leftBy r (seenSlope (sharpnessOf sharpen (bendOf beta «project_at»)) (now (starts .entry)) (now (near .entry)) (now (coef .entry)) (now (passive .entry)) (now (x .entry))) (now (slope .entry)) ⌝ }
 {
     let n = passive.len();
     let refused = crate::lengths::refusal(x.len() != n, (density.len() < n) | (slope.len() < n));
     if refused != 0 {
         return refused;
     }
-    let s = sharpness(sharpen, beta);
+    let s = sharpness(sharpen, Bend { beta, project_at });
     oc_seen::see(
         starts,
         near,
@@ -232,22 +234,26 @@ pub extern "C" fn sokdrib_volume_slope(
     0
 }
 
-pub fn rule_of(number: u32, value: f64) -> Rule
-    ensures { λ r. ⌜ r ≡ ruleOf number value ⌝ }
+pub fn rule_of(number: u32, value: f64, project_at: f64) -> Rule
+    ensures { λ r. ⌜ r ≡ ruleOf number value «project_at» ⌝ }
 {
     if number == 0 {
         Rule::Straight(value)
     } else {
-        Rule::Sharpened(value)
+        Rule::Sharpened(Bend {
+            beta: value,
+            project_at,
+        })
     }
 }
 
 // The volume that a design y keeps. Rule 0: along the slope straight of the volume, from value, the volume held solid. Any other rule: of the
-// densities that a solve would see at the steepness value. density is for the call's own use.
+// densities that a solve would see at the steepness value, turning at project_at. density is for the call's own use.
 #[no_mangle]
 pub extern "C" fn sokdrib_kept(
     rule: u32,
     value: f64,
+    project_at: f64,
     straight: &[f64],
     starts: &[u32],
     near: &[u32],
@@ -258,7 +264,7 @@ pub extern "C" fn sokdrib_kept(
     density: &mut [f64],
 ) -> Kept
     ensures { λ r. ⌜ r .refused ≡ refusalOf (not (eqb (length (now (volumes .entry))) (length (now (passive .entry)))) || not (eqb (length (now (y .entry))) (length (now (passive .entry))))) (ltb (length (now (density .entry))) (length (now (passive .entry)))) ⌝ }
-    ensures { λ r. ⌜ r .volume ≡ unless (r .refused) (keptOf (ruleOf rule value) (now (straight .entry)) (now (starts .entry)) (now (near .entry)) (now (coef .entry)) (now (volumes .entry)) (now (passive .entry)) (now (y .entry))) zero64 ⌝ }
+    ensures { λ r. ⌜ r .volume ≡ unless (r .refused) (keptOf (ruleOf rule value «project_at») (now (straight .entry)) (now (starts .entry)) (now (near .entry)) (now (coef .entry)) (now (volumes .entry)) (now (passive .entry)) (now (y .entry))) zero64 ⌝ }
     ensures { λ r. ⌜ WorkedBy (r .refused) (length (now (passive .entry))) (now (density .entry)) (now (density .exit)) ⌝ }
 {
     let n = passive.len();
@@ -269,7 +275,7 @@ pub extern "C" fn sokdrib_kept(
             volume: 0.0,
         };
     }
-    let rule = rule_of(rule, value);
+    let rule = rule_of(rule, value, project_at);
     let volume = oc_kept::kept(
         rule,
         straight,

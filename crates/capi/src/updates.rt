@@ -12,7 +12,7 @@ ghost use Rattle.capi.specs.Numbers.{ruleOf, answerOf};
 use c_update::Update;
 
 // One update of the design x, from the slopes dc of the work and dv of the volume: each value moved by at most m, the rate found at which the
-// volume kept is within tolerance of target. The rule and its value are those of sokdrib_kept, with dv for the slope of the volume. design is
+// volume kept is within tolerance of target. The rule, its value and project_at are those of sokdrib_kept, with dv for the slope of the volume. design is
 // left the updated design; gain and work are for the call's own use.
 #[no_mangle]
 pub extern "C" fn sokdrib_update(
@@ -25,6 +25,7 @@ pub extern "C" fn sokdrib_update(
     tolerance: f64,
     rule: u32,
     value: f64,
+    project_at: f64,
     starts: &[u32],
     near: &[u32],
     coef: &[f64],
@@ -34,8 +35,8 @@ pub extern "C" fn sokdrib_update(
     work: &mut [f64],
 ) -> Update
     ensures { λ r. ⌜ r .refused ≡ refusalOf (not (eqb (length (now (dc .entry))) (length (now (x .entry)))) || not (eqb (length (now (dv .entry))) (length (now (x .entry)))) || not (eqb (length (now (passive .entry))) (length (now (x .entry)))) || not (eqb (length (now (volumes .entry))) (length (now (x .entry))))) (ltb (length (now (design .entry))) (length (now (x .entry))) || ltb (length (now (gain .entry))) (length (now (x .entry))) || ltb (length (now (work .entry))) (length (now (x .entry)))) ⌝ }
-    ensures { λ r. ⌜ r ≡ unless (r .refused) (toldOf (answerOf (record { x = now (x .entry); gain = gainsOf (now (dc .entry)) (now (dv .entry)); dv = now (dv .entry); passive = now (passive .entry); move = m; target = target; tolerance = tolerance; rule = ruleOf rule value; starts = now (starts .entry); near = now (near .entry); coef = now (coef .entry); volumes = now (volumes .entry) }))) (refusedWith (r .refused)) ⌝ }
-    ensures { λ r. ⌜ now (design .exit) ≡ leftBy (r .refused) (updated (record { x = now (x .entry); gain = gainsOf (now (dc .entry)) (now (dv .entry)); dv = now (dv .entry); passive = now (passive .entry); move = m; target = target; tolerance = tolerance; rule = ruleOf rule value; starts = now (starts .entry); near = now (near .entry); coef = now (coef .entry); volumes = now (volumes .entry) }) .design) (now (design .entry)) ⌝ }
+    ensures { λ r. ⌜ r ≡ unless (r .refused) (toldOf (answerOf (record { x = now (x .entry); gain = gainsOf (now (dc .entry)) (now (dv .entry)); dv = now (dv .entry); passive = now (passive .entry); move = m; target = target; tolerance = tolerance; rule = ruleOf rule value «project_at»; starts = now (starts .entry); near = now (near .entry); coef = now (coef .entry); volumes = now (volumes .entry) }))) (refusedWith (r .refused)) ⌝ }
+    ensures { λ r. ⌜ now (design .exit) ≡ leftBy (r .refused) (updated (record { x = now (x .entry); gain = gainsOf (now (dc .entry)) (now (dv .entry)); dv = now (dv .entry); passive = now (passive .entry); move = m; target = target; tolerance = tolerance; rule = ruleOf rule value «project_at»; starts = now (starts .entry); near = now (near .entry); coef = now (coef .entry); volumes = now (volumes .entry) }) .design) (now (design .entry)) ⌝ }
     ensures { λ r. ⌜ (WorkedBy (r .refused) (length (now (x .entry))) (now (gain .entry)) (now (gain .exit))) × (WorkedBy (r .refused) (length (now (x .entry))) (now (work .entry)) (now (work .exit))) ⌝ }
 {
     let n = x.len();
@@ -52,7 +53,7 @@ pub extern "C" fn sokdrib_update(
             passes: 0,
         };
     }
-    let rule = crate::rounds::rule_of(rule, value);
+    let rule = crate::rounds::rule_of(rule, value, project_at);
     let u = update::update(
         x,
         dc,

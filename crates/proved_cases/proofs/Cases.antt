@@ -18,7 +18,7 @@ use Rattle.run_plain.specs.declared.Entry.the-variants.{Kept}
 use Rattle.geom.proofs.Cases.{image-in-x}
 use Rattle.faces.proofs.Cases.{above-a-corner, above-the-face}
 use Rattle.topo.proofs.Cases.{level-of-half, level-of-minus-three, level-of-seven}
-use Rattle.oc_project.proofs.Cases.{projection-ends}
+use Rattle.oc_project_ends.proofs.Ends.{ends-stay, half-turns}
 use Rattle.region_off_centre.proofs.Cases.{reaches-one-and-none, even-at-half}
 use Rattle.update_rates.proofs.Cases.{nan-slope}
 use Rattle.proved_cases.specs.Cases.{ProvedCases, OwnRows, twoFree}
@@ -42,8 +42,8 @@ proved-cases =
       levelOfHalf = level-of-half;
       levelOfMinusThree = level-of-minus-three;
       levelOfSeven = level-of-seven;
-      projectsNone = λ k h. projection-ends k h .none;
-      projectsAll = λ k h. projection-ends k h .all;
+      projectsNone = λ k h. ends-stay half (half-turns .0) (half-turns .1) k h .none;
+      projectsAll = λ k h. ends-stay half (half-turns .0) (half-turns .1) k h .all;
       aboveCorner = above-a-corner;
       aboveFace = above-the-face;
       imageInX = image-in-x;

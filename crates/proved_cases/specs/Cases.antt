@@ -13,7 +13,7 @@ use Rattle.geom.specs.declared.Mirror.{Mirror}
 use Rattle.faces.specs.Triangle.{dist2ToTriangle}
 use Rattle.topo.specs.Levels.{levelOf}
 use Rattle.update_rates.specs.Rates.{half}
-use Rattle.oc_project.specs.Project.{stages, projected}
+use Rattle.oc_project.specs.Project.{stages, bendOf, projected}
 use Rattle.update_value.specs.Value.{gainOf, nextOf}
 use Rattle.region_off_centre.specs.OffCentre.{offCentreOf}
 use Rattle.region_off_centre.specs.declared.Balance.the-variants.{Even, Reaches}
@@ -33,7 +33,7 @@ twoFree share =
       centroids = twoPoints;
       passive = false ∷ false ∷ [];
       mirrors = [];
-      goal = record { fraction = share; radius = one64; sharpen = false; «max_iterations» = 1 };
+      goal = record { fraction = share; radius = one64; sharpen = false; «max_iterations» = 1; «project_at» = half };
       flag = false;
       lent = room (256 ∷ 256 ∷ 257 ∷ 256 ∷ 256 ∷ 256 ∷ 256 ∷ 1040 ∷ []);
     }
@@ -66,8 +66,8 @@ pub record ProvedCases : Type 0 where
   pub levelOfMinusThree : levelOf (neg (whole64 3)) ≡ 0
   pub levelOfSeven : levelOf (whole64 7) ≡ 1000
   -- "projection of 0 and 1 unchanged at all five steepnesses"
-  pub projectsNone : (k : ℕ) → k < 5 → projected (getD stages k nan) zero64 ≡ zero64
-  pub projectsAll : (k : ℕ) → k < 5 → projected (getD stages k nan) one64 ≡ one64
+  pub projectsNone : (k : ℕ) → k < 5 → projected (bendOf (getD stages k nan) half) zero64 ≡ zero64
+  pub projectsAll : (k : ℕ) → k < 5 → projected (bendOf (getD stages k nan) half) one64 ≡ one64
   -- "(0,0,2) and (0.25,0.25,1) to triangle (0,0,0),(1,0,0),(0,1,0): 4 and 1"
   pub aboveCorner : toTriangle (vec zero64 zero64 two64) ≡ ofBits binary64 0x4010_0000_0000_0000
   pub aboveFace : toTriangle (vec (ofBits binary64 0x3fd0_0000_0000_0000) (ofBits binary64 0x3fd0_0000_0000_0000) one64) ≡ one64

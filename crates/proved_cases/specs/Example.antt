@@ -79,7 +79,7 @@ openingFrom j l =
       centroids = map (map (ofBits binary64)) (take (j .elements) (l .centroids));
       passive = take (j .elements) (l .passive);
       mirrors = map (map (ofBits binary64)) (take (j .mirrors) (l .mirrors));
-      goal = record { fraction = ofBits binary64 (j .fraction); radius = ofBits binary64 (j .radius); sharpen = j .sharpen; «max_iterations» = j .«max_iterations» };
+      goal = record { fraction = ofBits binary64 (j .fraction); radius = ofBits binary64 (j .radius); sharpen = j .sharpen; «max_iterations» = j .«max_iterations»; «project_at» = half };
       flag = false;
       lent = room (256 ∷ 256 ∷ 257 ∷ 256 ∷ 256 ∷ 256 ∷ 256 ∷ 1040 ∷ []);
     }
@@ -101,7 +101,7 @@ job =
       centroids = (zero64 ∷ zero64 ∷ zero64 ∷ []) ∷ (ofBits binary64 0x4024_0000_0000_0000 ∷ zero64 ∷ zero64 ∷ []) ∷ [];
       passive = true ∷ false ∷ [];
       mirrors = [];
-      goal = record { fraction = ofBits binary64 0x3fe8_0000_0000_0000; radius = one64; sharpen = false; «max_iterations» = 1 };
+      goal = record { fraction = ofBits binary64 0x3fe8_0000_0000_0000; radius = one64; sharpen = false; «max_iterations» = 1; «project_at» = half };
       flag = false;
       lent = room (256 ∷ 256 ∷ 257 ∷ 256 ∷ 256 ∷ 256 ∷ 256 ∷ 1040 ∷ []);
     }

@@ -1,6 +1,7 @@
 // One case of each leaf: its arguments are read, then what the Rust gave.
 use geom::Mirror;
 use geom::Vec3;
+use oc_project::Bend;
 use replay_sample::words::number;
 use replay_sample::words::same;
 use replay_sample::words::word;
@@ -79,8 +80,11 @@ pub fn dist2_to_triangle() -> bool {
 
 pub fn project() -> bool {
     let v = number();
-    let beta = number();
-    let r = oc_project::project(oc_project::at_steepness(beta), v);
+    let bend = Bend {
+        beta: number(),
+        project_at: topo::PROJECT_AT,
+    };
+    let r = oc_project::project(oc_project::at_bend(bend), v);
     let density = number();
     let slope = number();
     same(r.density, density) & same(r.slope, slope)

@@ -43,6 +43,7 @@ fn fresh() -> State {
             fraction: 0.0,
             sharpen: false,
             max_iterations: 0,
+            project_at: 0.0,
         },
         progress: Progress {
             rounds: 0,
@@ -302,6 +303,7 @@ fn goal() -> Goal {
         radius,
         sharpen,
         max_iterations,
+        project_at: topo::PROJECT_AT,
     }
 }
 

@@ -1,6 +1,7 @@
 // One case of an update, of 12 elements and 48 entries: design, slopes of work and volume, marks, the move, target, tolerance, whether it is
 // sharpened with its steepness or the volume held solid, the table, volumes; then how it ended, the passes and the design, as the Rust gave them.
 use oc_kept::Rule;
+use oc_project::Bend;
 use replay_sample::read::are;
 use replay_sample::read::counts;
 use replay_sample::read::flags;
@@ -14,7 +15,10 @@ fn rule() -> Rule {
     let sharpened = word() != 0;
     let value = number();
     if sharpened {
-        return Rule::Sharpened(value);
+        return Rule::Sharpened(Bend {
+            beta: value,
+            project_at: topo::PROJECT_AT,
+        });
     }
     Rule::Straight(value)
 }

@@ -13,6 +13,7 @@ use Rattle.lists.proofs.Laws.{neither}
 use Rattle.topo.specs.declared.Iteration.{Iteration}
 use Rattle.topo.specs.declared.Stop.{Stop}
 use Rattle.topo.specs.declared.Stop.the-variants.{Stopped}
+use Rattle.oc_project.specs.Project.{bendOf}
 use Rattle.oc_seen.specs.declared.Sharpness.the-variants.{Off, At}
 use Rattle.oc_seen.specs.Seen.{seenDensity}
 use Rattle.oc_record.specs.Record.{complianceOf}
@@ -177,7 +178,7 @@ module _ (s : State) (a : Arguments) (l : Core) (w : Work) where
   onward-law st entry t n design density last w′ slope z o g d c q en =
       let c′ = c ∙ ap (onwardState s) (o .entry) in
       let x′ : take (s .setting .elements) design ≡ designIn s (a .energies) l = ap (take (s .setting .elements)) (o .design-is) ∙ updated-whole z in
-      let q′ = q .0 ∙ (λ i. overlay (seenDensity (choose (s .setting .sharpen) (At (sharpness (steepAt (c′ i .progress .stage)))) Off) (take (suc (s .setting .elements)) (l .starts)) (take (s .setting .entries) (l .near)) (take (s .setting .entries) (l .coef)) (take (s .setting .elements) (l .passive)) (x′ i)) (l .density)) in
+      let q′ = q .0 ∙ (λ i. overlay (seenDensity (choose (s .setting .sharpen) (At (bendOf (sharpness (steepAt (c′ i .progress .stage))) (s .setting .«project_at»))) Off) (take (suc (s .setting .elements)) (l .starts)) (take (s .setting .entries) (l .near)) (take (s .setting .entries) (l .coef)) (take (s .setting .elements) (l .passive)) (x′ i)) (l .density)) in
       record {
         same = λ h. (λ i. record {
           state = c′ i;

@@ -8,6 +8,7 @@ use lib.ListN.{length, take}
 use lib.Ieee.{Float}
 use Rattle.lists.specs.Lists.{choose, overlay}
 use Rattle.topo.specs.declared.Iteration.{Iteration}
+use Rattle.oc_project.specs.Project.{bendOf}
 use Rattle.oc_seen.specs.declared.Sharpness.the-variants.{Off, At}
 use Rattle.oc_seen.specs.Seen.{seenDensity}
 use Rattle.oc_record.specs.Record.{complianceOf}
@@ -49,14 +50,14 @@ pub record Enough (s : State) (u : List Float) (l : Core) (w : Work) : Type 0 wh
 -- the densities of a question at a stage, by the needed places of the lists
 abbrev pub questionAt : State → ℕ → List Bool → List ℕ → List ℕ → List Float → List Float → List Float
 questionAt s stage p st ne co x =
-    seenDensity (choose (s .setting .sharpen) (At (sharpness (steepAt stage))) Off)
+    seenDensity (choose (s .setting .sharpen) (At (bendOf (sharpness (steepAt stage)) (s .setting .«project_at»))) Off)
     (take (suc (s .setting .elements)) st) (take (s .setting .entries) ne) (take (s .setting .entries) co) (take (s .setting .elements) p) (take (s .setting .elements) x)
 
 -- what the formulas read
 abbrev pub caseIn : State → Core → Case
 caseIn s l =
     caseAt (take (s .setting .elements) (l .volumes)) (take (s .setting .elements) (l .passive)) (take (suc (s .setting .elements)) (l .starts)) (take (s .setting .entries) (l .near)) (take (s .setting .entries) (l .coef))
-    (s .setting .fraction) (s .setting .sharpen)
+    (s .setting .fraction) (s .setting .sharpen) (s .setting .«project_at»)
 
 abbrev pub entryIn : State → List Float → Core → Iteration
 entryIn s energies l =

@@ -27,6 +27,7 @@ pub fn ask(
     let e = state.setting.entries;
     run_round::ask(
         state.setting.sharpen,
+        state.setting.project_at,
         stage,
         &starts[..n + 1usize],
         &near[..e],
@@ -75,6 +76,7 @@ pub fn solve(
         state.progress.stage,
         state.setting.fraction,
         state.setting.sharpen,
+        state.setting.project_at,
         energies,
         &volumes[..n],
         &passive[..n],

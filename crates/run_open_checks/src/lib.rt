@@ -1,12 +1,13 @@
 // What an opening is refused with before the filter is built, in 01's order.
 ghost use mathlib.Core.Path.{_≡_};
+ghost use mathlib.Core.Bool.{not};
 ghost use mathlib.Core.List.{[], _∷_, _++_};
 ghost use Prim.Native.Nat.{_≤_, _<_};
 ghost use lib.ListN.{length, drop};
 ghost use Rattle.lists.specs.Lists.{overwrite};
 ghost use Rattle.ieee.specs.Basic.{one64};
 ghost use Rattle.oc_start.specs.Start.{solidVolume, startDesign};
-ghost use Rattle.oc_goal.specs.Goal.{targetOf, startDensity};
+ghost use Rattle.oc_goal.specs.Goal.{turns, targetOf, startDensity};
 ghost use Rattle.run_plain.specs.Lent.{openShort};
 ghost use Rattle.run_plain.specs.Formulas.{sumOf};
 ghost use Rattle.run_plain.specs.Opening.{fractionBad, firstRefusal};
@@ -23,6 +24,12 @@ fn fraction_bad(f: f64) -> bool
     ensures { λ r. ⌜ r ≡ fractionBad f ⌝ }
 {
     !((f > 0.0) & (f < 1.0))
+}
+
+fn turn_bad(at: f64) -> bool
+    ensures { λ r. ⌜ r ≡ not (turns at) ⌝ }
+{
+    !((at >= 0.25) & (at <= 0.75))
 }
 
 fn too_short(
@@ -142,6 +149,7 @@ pub fn refusal(
     let rest = lists::first(lent::radius_bad(goal.radius), 8, rest);
     let rest = lists::first(oc_goal::no_room(solid, total, target), 7, rest);
     let rest = lists::first(goal.max_iterations == 0, 6, rest);
+    let rest = lists::first(turn_bad(goal.project_at), 28, rest);
     let rest = lists::first(fraction_bad(goal.fraction), 5, rest);
     lists::first(lent::volumes_bad(volumes), 4, rest)
 }
@@ -183,6 +191,7 @@ pub fn opened_state(goal: Goal, elements: usize, entries: usize) -> State
             fraction: goal.fraction,
             sharpen: goal.sharpen,
             max_iterations: goal.max_iterations,
+            project_at: goal.project_at,
         },
         progress: Progress {
             rounds: 0,

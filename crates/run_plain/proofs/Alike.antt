@@ -186,6 +186,7 @@ lent-case s k l h =
       coef = take-part (s .setting .entries) (k .coef) (l .coef) (h .coef) i;
       fraction = s .setting .fraction;
       sharpen = s .setting .sharpen;
+      projectAt = s .setting .«project_at»;
     }
 
 pub record Reads (r : Run) (s : State) (l : Lists) : Type 0 where

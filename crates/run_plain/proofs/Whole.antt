@@ -324,6 +324,7 @@ open-sim g k l e =
         coef = fc .whole i;
         fraction = g .goal .fraction;
         sharpen = g .goal .sharpen;
+        projectAt = g .goal .«project_at»;
       };
       design = fd .whole;
       asked = tt;

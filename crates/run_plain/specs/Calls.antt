@@ -161,6 +161,7 @@ caseFrom s l =
       coef = take (s .setting .entries) (l .coef);
       fraction = s .setting .fraction;
       sharpen = s .setting .sharpen;
+      projectAt = s .setting .«project_at»;
     }
 
 unfoldable pub checksAt : State → Arguments → Sizes → Checks
@@ -316,7 +317,7 @@ builtLists o l design density =
     }
 
 abbrev pub settingOf : Goal → ℕ → ℕ → Setting
-settingOf g elements entries = record { elements = elements; entries = entries; fraction = g .fraction; sharpen = g .sharpen; «max_iterations» = g .«max_iterations» }
+settingOf g elements entries = record { elements = elements; entries = entries; fraction = g .fraction; sharpen = g .sharpen; «max_iterations» = g .«max_iterations»; «project_at» = g .«project_at» }
 
 abbrev pub openedState : Goal → ℕ → ℕ → State
 openedState g elements entries = record { phase = Solid; setting = settingOf g elements entries; progress = unstarted; compliances = noWork }
@@ -436,7 +437,7 @@ worldFrom w (c ∷ more) = worldFrom (worldAfter (w .lists) (resultOf w c)) more
 
 -- "the fresh state that docs/ gives"
 unfoldable pub fresh : State
-fresh = record { phase = Idle; setting = record { elements = 0; entries = 0; fraction = zero64; sharpen = false; «max_iterations» = 0 }; progress = unstarted; compliances = noWork }
+fresh = record { phase = Idle; setting = record { elements = 0; entries = 0; fraction = zero64; sharpen = false; «max_iterations» = 0; «project_at» = zero64 }; progress = unstarted; compliances = noWork }
 
 -- what the plain run is fed of a call: of the lists the lengths that are lent
 abbrev pub fed : Lists → Call → Answer

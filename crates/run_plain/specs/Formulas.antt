@@ -8,6 +8,8 @@ use Rattle.lists.specs.Lists.{tabulate, sumTo, anyTo, choose, zero64}
 use Rattle.ieee.specs.Basic.{one64, absOf, isFinite}
 use Rattle.ieee_root.specs.Sqrt.{sqrtOf}
 use Rattle.topo.specs.declared.Iteration.{Iteration}
+use Rattle.oc_project.specs.declared.Bend.{Bend}
+use Rattle.oc_project.specs.Project.{bendOf}
 use Rattle.oc_seen.specs.declared.Sharpness.{Sharpness}
 use Rattle.oc_seen.specs.declared.Sharpness.the-variants.{Off, At}
 use Rattle.oc_kept.specs.declared.Rule.the-variants.{Straight, Sharpened}
@@ -39,6 +41,7 @@ pub record Case : Type 0 where
   pub coef : List Float
   pub fraction : Float
   pub sharpen : Bool
+  pub projectAt : Float
 
 -- `vec![LEVELS; n]`: the solid part's densities
 unfoldable pub ones : ℕ → List Float
@@ -58,9 +61,13 @@ module _ (c : Case) where
   abbrev pub free : List Float
   free = freeVolumes (c .volumes) (c .passive)
 
+  -- the goal's turning density "takes the half's place throughout the projection"
+  abbrev pub bendAt : Steep → Bend
+  bendAt b = bendOf (sharpness b) (c .projectAt)
+
   -- `if g.sharpen { Some(..) } else { None }`
   abbrev pub seenAt : Steep → Sharpness
-  seenAt b = choose (c .sharpen) (At (sharpness b)) Off
+  seenAt b = choose (c .sharpen) (At (bendAt b)) Off
 
   -- the densities that a round's solve is asked for
   unfoldable pub see : Steep → List Float → List Float
@@ -88,7 +95,7 @@ module _ (c : Case) where
         move = moveAt b;
         target = targetOf (c .fraction) total;
         tolerance = toleranceOf total;
-        rule = choose (c .sharpen) (Sharpened (sharpness b)) (Straight solid);
+        rule = choose (c .sharpen) (Sharpened (bendAt b)) (Straight solid);
         starts = c .starts;
         near = c .near;
         coef = c .coef;

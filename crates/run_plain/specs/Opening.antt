@@ -11,7 +11,7 @@ use Rattle.topo.specs.declared.Goal.{Goal}
 use Rattle.lent.specs.Refusals.{Test, firstOf}
 use Rattle.filter.specs.Filter.{neighbours, start, coefficients}
 use Rattle.filter.specs.Build.{rowsRefusal, countTests, filterTests}
-use Rattle.oc_goal.specs.Goal.{noRoom, targetOf, startDensity}
+use Rattle.oc_goal.specs.Goal.{turns, noRoom, targetOf, startDensity}
 use Rattle.oc_start.specs.Start.{solidVolume, startDesign}
 use Rattle.run_plain.specs.declared.Entry.{Entry}
 use Rattle.run_plain.specs.declared.Entry.the-variants.{Kept, Zeroed, Shut, Opens}
@@ -66,9 +66,9 @@ module _ (o : Opening) where
   abbrev pub meshTests : List Test
   meshTests = filterTests (o .centroids) (o .goal .radius) (o .mirrors) (openShort elements (o .goal .«max_iterations») (o .lent))
 
-  -- 5 to 7: an opening's own
+  -- 5 to 7: an opening's own; 02: "28, kept, for another turning density, tested after 5"
   abbrev pub goalTests : List Test
-  goalTests = (fractionBad (o .goal .fraction), 5) ∷ (eqb (o .goal .«max_iterations») 0, 6) ∷ (noRoom solidOf totalOf targetAt, 7) ∷ []
+  goalTests = (fractionBad (o .goal .fraction), 5) ∷ (not (turns (o .goal .«project_at»)), 28) ∷ (eqb (o .goal .«max_iterations») 0, 6) ∷ (noRoom solidOf totalOf targetAt, 7) ∷ []
 
   -- what the opening is refused with before the rows, 0 for none: "1 to 13 in order, but the first 14 comes after 12"
   unfoldable pub firstRefusal : ℕ
@@ -92,7 +92,7 @@ module _ (o : Opening) where
 
   -- what the formulas of its rounds read
   unfoldable pub caseOf : Case
-  caseOf = record { volumes = o .volumes; passive = o .passive; starts = startsOf; near = nearOf; coef = coefOf; fraction = o .goal .fraction; sharpen = o .goal .sharpen }
+  caseOf = record { volumes = o .volumes; passive = o .passive; starts = startsOf; near = nearOf; coef = coefOf; fraction = o .goal .fraction; sharpen = o .goal .sharpen; projectAt = o .goal .«project_at» }
 
   -- "the start's design"
   unfoldable pub startOf : List Float

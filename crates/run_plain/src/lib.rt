@@ -56,6 +56,8 @@ pub struct Setting {
     pub fraction: f64,
     pub sharpen: bool,
     pub max_iterations: usize,
+    // the density that sharpening turns about
+    pub project_at: f64,
 }
 
 // How far a run is.

@@ -8,6 +8,8 @@ use lib.Ieee.{Float, nan, binary64, div, ofBits}
 use Rattle.lists.specs.Lists.{sumTo, choose}
 use Rattle.ieee_root.specs.Sqrt.{sqrtOf}
 use Rattle.topo.specs.declared.Iteration.{Iteration}
+use Rattle.oc_project.specs.declared.Bend.{Bend}
+use Rattle.oc_project.specs.Project.{bendOf}
 use Rattle.oc_seen.specs.declared.Sharpness.the-variants.{Off, At}
 use Rattle.oc_seen.specs.Seen.{slopes, elementSlope, sharpenedSlope, seenSlope}
 use Rattle.oc_kept.specs.declared.Rule.{Rule}
@@ -36,9 +38,9 @@ pub slopes-off : (starts near : List ℕ) (coef : List Float) (passive : List Bo
 unfolding plainSlopes seenSlope slopes elementSlope sharpenedSlope
 slopes-off starts near coef passive x = refl
 
-module _ (sharpen : Bool) (beta : Float) (energies : List Float) (passive : List Bool) (starts near : List ℕ) (coef density x free : List Float) where
-  pub slopes-are : (slope dc dv : List Float) → slope ≡ seenSlope (choose sharpen (At beta) Off) starts near coef passive x → dc ≡ workSlope starts near coef passive density slope energies
-      → dv ≡ choose sharpen (volumeSlope starts near coef slope free) (straightSlope starts near coef free) → SlopesInto sharpen beta energies passive starts near coef density x free dc dv
+module _ (sharpen : Bool) (bend : Bend) (energies : List Float) (passive : List Bool) (starts near : List ℕ) (coef density x free : List Float) where
+  pub slopes-are : (slope dc dv : List Float) → slope ≡ seenSlope (choose sharpen (At bend) Off) starts near coef passive x → dc ≡ workSlope starts near coef passive density slope energies
+      → dv ≡ choose sharpen (volumeSlope starts near coef slope free) (straightSlope starts near coef free) → SlopesInto sharpen bend energies passive starts near coef density x free dc dv
   slopes-are slope dc dv e f g =
       record {
         work = f ∙ ap (λ (s : List Float). workSlope starts near coef passive density s energies) e;
@@ -46,9 +48,9 @@ module _ (sharpen : Bool) (beta : Float) (energies : List Float) (passive : List
       }
 
 -- a round, from what each step gives
-module _ (volumes : List Float) (passive : List Bool) (starts near : List ℕ) (coef : List Float) (fraction : Float) (sharpen : Bool) (stage : ℕ) (x q energies : List Float) where
+module _ (volumes : List Float) (passive : List Bool) (starts near : List ℕ) (coef : List Float) (fraction : Float) (sharpen : Bool) (projectAt : Float) (stage : ℕ) (x q energies : List Float) where
   abbrev c : Case
-  c = caseAt volumes passive starts near coef fraction sharpen
+  c = caseAt volumes passive starts near coef fraction sharpen projectAt
 
   -- what the update is given, by the code's numbers
   abbrev givenBy : Float → Float → Float → Rule → List Float → List Float → Given
@@ -57,15 +59,15 @@ module _ (volumes : List Float) (passive : List Bool) (starts near : List ℕ) (
 
   given-is : (t s b m tg tl : Float) (ru : Rule) (f dc dv : List Float)
       → t ≡ sumOf volumes → s ≡ solidVolume volumes passive → b ≡ sharpness (steepAt stage) → f ≡ freeVolumes volumes passive
-      → SlopesInto sharpen b energies passive starts near coef q x f dc dv
+      → SlopesInto sharpen (bendOf b projectAt) energies passive starts near coef q x f dc dv
       → m ≡ choose sharpen (div binary64 (ofBits binary64 0x3fc9_9999_9999_999a) (sqrtOf binary64 b)) (ofBits binary64 0x3fc9_9999_9999_999a)
-      → tg ≡ targetOf fraction t → tl ≡ toleranceOf t → ru ≡ choose sharpen (Sharpened b) (Straight s)
+      → tg ≡ targetOf fraction t → tl ≡ toleranceOf t → ru ≡ choose sharpen (Sharpened (bendOf b projectAt)) (Straight s)
       → givenBy m tg tl ru dc dv ≡ givenAt c (steepAt stage) x q energies
   given-is t s b m tg tl ru f dc dv et es eb ef si em eg el er =
-      let dc′ = si .work ∙ (λ i. workSlope starts near coef passive q (seenSlope (choose sharpen (At (eb i)) Off) starts near coef passive x) energies) in
-      let dv′ = si .volume ∙ (λ i. choose sharpen (volumeSlope starts near coef (seenSlope (choose sharpen (At (eb i)) Off) starts near coef passive x) (ef i)) (straightSlope starts near coef (ef i))) in
+      let dc′ = si .work ∙ (λ i. workSlope starts near coef passive q (seenSlope (choose sharpen (At (bendOf (eb i) projectAt)) Off) starts near coef passive x) energies) in
+      let dv′ = si .volume ∙ (λ i. choose sharpen (volumeSlope starts near coef (seenSlope (choose sharpen (At (bendOf (eb i) projectAt)) Off) starts near coef passive x) (ef i)) (straightSlope starts near coef (ef i))) in
       let m′ = em ∙ (λ i. choose sharpen (div binary64 (ofBits binary64 0x3fc9_9999_9999_999a) (sqrtOf binary64 (eb i))) (ofBits binary64 0x3fc9_9999_9999_999a)) in
-      let ru′ = er ∙ (λ i. choose sharpen (Sharpened (eb i)) (Straight (es i))) in
+      let ru′ = er ∙ (λ i. choose sharpen (Sharpened (bendOf (eb i) projectAt)) (Straight (es i))) in
       let tg′ = eg ∙ ap (targetOf fraction) et in
       let tl′ = el ∙ ap toleranceOf et in
       λ i. record { x = x; gain = gainsOf (dc′ i) (dv′ i); dv = dv′ i; passive = passive; move = m′ i; target = tg′ i; tolerance = tl′ i; rule = ru′ i; starts = starts; near = near; coef = coef; volumes = volumes }
@@ -73,9 +75,9 @@ module _ (volumes : List Float) (passive : List Bool) (starts near : List ℕ) (
   pub solved-is : (t s b ft g m tg tl co fr ch : Float) (ru : Rule) (f dc dv next design : List Float) (u : Updated) (n : ℕ)
       → t ≡ sumTo (λ k. getD volumes k nan) (length volumes) → s ≡ solidVolume volumes passive → b ≡ sharpness (steepAt stage) → f ≡ freeVolumes volumes passive
       → ft ≡ sumTo (λ k. getD f k nan) (length f) → g ≡ greyOf q f ft
-      → SlopesInto sharpen b energies passive starts near coef q x f dc dv
+      → SlopesInto sharpen (bendOf b projectAt) energies passive starts near coef q x f dc dv
       → m ≡ choose sharpen (div binary64 (ofBits binary64 0x3fc9_9999_9999_999a) (sqrtOf binary64 b)) (ofBits binary64 0x3fc9_9999_9999_999a)
-      → tg ≡ targetOf fraction t → tl ≡ toleranceOf t → ru ≡ choose sharpen (Sharpened b) (Straight s)
+      → tg ≡ targetOf fraction t → tl ≡ toleranceOf t → ru ≡ choose sharpen (Sharpened (bendOf b projectAt)) (Straight s)
       → Done (givenBy m tg tl ru dc dv) u next → ch ≡ changeOf next x → design ≡ next → co ≡ complianceOf energies → fr ≡ fractionOf volumes q t
       → (_≡_ {A = Iteration} (record { number = n; compliance = co; fraction = fr; change = ch; sharpness = b; grey = g; passes = u .passes }) (recordAt c (steepAt stage) x q energies n))
       × (design ≡ updateAt c (steepAt stage) x q energies .design)

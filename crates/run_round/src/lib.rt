@@ -4,12 +4,14 @@ ghost use lib.Ieee.{binary64, div, ofBits};
 ghost use lib.ListN.{length};
 ghost use Rattle.lists.specs.Lists.{choose};
 ghost use Rattle.ieee_root.specs.Sqrt.{sqrtOf};
+ghost use Rattle.oc_project.specs.Project.{bendOf};
 ghost use Rattle.oc_seen.specs.Seen.{seenDensity, seenSlope};
 ghost use Rattle.oc_slopes.specs.Slopes.{volumeSlope, straightSlope};
 ghost use Rattle.run_plain.specs.Formulas.{sharpness as sharpnessOf, updateAt, recordAt};
 ghost use Rattle.run_plain.specs.Calls.{steepAt};
 ghost use Rattle.run_round.specs.Round.{caseAt, Long, plainSlopes, SlopesInto};
 use oc_kept::Rule;
+use oc_project::Bend;
 use oc_seen::Sharpness;
 use topo::Iteration;
 
@@ -32,21 +34,21 @@ pub fn sharpness(stage: usize) -> f64
     16.0
 }
 
-fn seen_at(sharpen: bool, beta: f64) -> Sharpness
-    ensures { λ r. ⌜ r ≡ choose sharpen (Sharpness.At beta) Sharpness.Off ⌝ }
+fn seen_at(sharpen: bool, bend: Bend) -> Sharpness
+    ensures { λ r. ⌜ r ≡ choose sharpen (Sharpness.At bend) Sharpness.Off ⌝ }
 {
     if sharpen {
-        return Sharpness::At(beta);
+        return Sharpness::At(bend);
     }
     Sharpness::Off
 }
 
 // The rule by which an update reckons the volume kept.
-fn rule_at(sharpen: bool, beta: f64, solid: f64) -> Rule
-    ensures { λ r. ⌜ r ≡ choose sharpen (Rule.Sharpened beta) (Rule.Straight solid) ⌝ }
+fn rule_at(sharpen: bool, bend: Bend, solid: f64) -> Rule
+    ensures { λ r. ⌜ r ≡ choose sharpen (Rule.Sharpened bend) (Rule.Straight solid) ⌝ }
 {
     if sharpen {
-        return Rule::Sharpened(beta);
+        return Rule::Sharpened(bend);
     }
     Rule::Straight(solid)
 }
@@ -76,7 +78,7 @@ fn slopes_plain(passive: &[bool], slope: &mut [f64])
 // How fast each density moves with its filtered value. `spare` is for the call's own use.
 fn slopes(
     sharpen: bool,
-    beta: f64,
+    bend: Bend,
     starts: &[u32],
     near: &[u32],
     coef: &[f64],
@@ -86,7 +88,7 @@ fn slopes(
     slope: &mut [f64],
 )
     requires { ⌜ Long (now passive) (now spare) × Long (now passive) (now slope) ⌝ }
-    ensures { λ _. ⌜ now (slope .exit) ≡ seenSlope (choose sharpen (Sharpness.At beta) Sharpness.Off) (now (starts .entry)) (now (near .entry)) (now (coef .entry)) (now (passive .entry)) (now (x .entry)) ⌝ }
+    ensures { λ _. ⌜ now (slope .exit) ≡ seenSlope (choose sharpen (Sharpness.At bend) Sharpness.Off) (now (starts .entry)) (now (near .entry)) (now (coef .entry)) (now (passive .entry)) (now (x .entry)) ⌝ }
 {
     if sharpen {
         oc_seen::see(
@@ -95,7 +97,7 @@ fn slopes(
             coef,
             passive,
             x,
-            Sharpness::At(beta),
+            Sharpness::At(bend),
             spare,
             slope,
         );
@@ -128,7 +130,7 @@ fn volume_slopes(
 // The slopes of the work and of the volume, `dc` and `dv`. `slope` and `spare` are for the call's own use.
 fn slopes_into(
     sharpen: bool,
-    beta: f64,
+    bend: Bend,
     energies: &[f64],
     passive: &[bool],
     starts: &[u32],
@@ -143,9 +145,9 @@ fn slopes_into(
     dv: &mut [f64],
 )
     requires { ⌜ Long (now passive) (now energies) × Long (now passive) (now density) × Long (now passive) (now free) × Long (now passive) (now slope) × Long (now passive) (now spare) × Long (now passive) (now dc) × Long (now passive) (now dv) ⌝ }
-    ensures { λ _. ⌜ SlopesInto sharpen beta (now (energies .entry)) (now (passive .entry)) (now (starts .entry)) (now (near .entry)) (now (coef .entry)) (now (density .entry)) (now (x .entry)) (now (free .entry)) (now (dc .exit)) (now (dv .exit)) ⌝ }
+    ensures { λ _. ⌜ SlopesInto sharpen bend (now (energies .entry)) (now (passive .entry)) (now (starts .entry)) (now (near .entry)) (now (coef .entry)) (now (density .entry)) (now (x .entry)) (now (free .entry)) (now (dc .exit)) (now (dv .exit)) ⌝ }
 {
-    slopes(sharpen, beta, starts, near, coef, passive, x, spare, slope);
+    slopes(sharpen, bend, starts, near, coef, passive, x, spare, slope);
     oc_slopes::work_slope(
         starts,
         near,
@@ -163,6 +165,7 @@ fn slopes_into(
 // The densities that a round is asked with. `spare` is for the call's own use.
 pub fn ask(
     sharpen: bool,
+    project_at: f64,
     stage: usize,
     starts: &[u32],
     near: &[u32],
@@ -173,9 +176,10 @@ pub fn ask(
     spare: &mut [f64],
 )
     requires { ⌜ Long (now passive) (now density) × Long (now passive) (now spare) ⌝ }
-    ensures { λ _. ⌜ now (density .exit) ≡ seenDensity (choose sharpen (Sharpness.At (sharpnessOf (steepAt stage))) Sharpness.Off) (now (starts .entry)) (now (near .entry)) (now (coef .entry)) (now (passive .entry)) (now (design .entry)) ⌝ }
+    ensures { λ _. ⌜ now (density .exit) ≡ seenDensity (choose sharpen (Sharpness.At (bendOf (sharpnessOf (steepAt stage)) «project_at»)) Sharpness.Off) (now (starts .entry)) (now (near .entry)) (now (coef .entry)) (now (passive .entry)) (now (design .entry)) ⌝ }
 {
-    let at = seen_at(sharpen, sharpness(stage));
+    let beta = sharpness(stage);
+    let at = seen_at(sharpen, Bend { beta, project_at });
     oc_seen::see(starts, near, coef, passive, design, at, density, spare);
 }
 
@@ -186,6 +190,7 @@ pub fn solve(
     stage: usize,
     fraction: f64,
     sharpen: bool,
+    project_at: f64,
     energies: &[f64],
     volumes: &[f64],
     passive: &[bool],
@@ -202,17 +207,18 @@ pub fn solve(
 ) -> Iteration
     requires { ⌜ Long (now passive) (now energies) × Long (now passive) (now volumes) × Long (now passive) (now density) × Long (now passive) (now design) ⌝ }
     requires { ⌜ Long (now passive) (now free) × Long (now passive) (now next) × Long (now passive) (now spare) × Long (now passive) (now dc) × Long (now passive) (now dv) ⌝ }
-    ensures { λ r. ⌜ (r ≡ recordAt (caseAt (now (volumes .entry)) (now (passive .entry)) (now (starts .entry)) (now (near .entry)) (now (coef .entry)) fraction sharpen) (steepAt stage) (now (design .entry)) (now (density .entry)) (now (energies .entry)) number)
-        × (now (design .exit) ≡ updateAt (caseAt (now (volumes .entry)) (now (passive .entry)) (now (starts .entry)) (now (near .entry)) (now (coef .entry)) fraction sharpen) (steepAt stage) (now (design .entry)) (now (density .entry)) (now (energies .entry)) .design) ⌝ }
+    ensures { λ r. ⌜ (r ≡ recordAt (caseAt (now (volumes .entry)) (now (passive .entry)) (now (starts .entry)) (now (near .entry)) (now (coef .entry)) fraction sharpen «project_at») (steepAt stage) (now (design .entry)) (now (density .entry)) (now (energies .entry)) number)
+        × (now (design .exit) ≡ updateAt (caseAt (now (volumes .entry)) (now (passive .entry)) (now (starts .entry)) (now (near .entry)) (now (coef .entry)) fraction sharpen «project_at») (steepAt stage) (now (design .entry)) (now (density .entry)) (now (energies .entry)) .design) ⌝ }
 {
     let total = lists::sum(volumes);
     let solid = oc_start::solid_volume(volumes, passive);
     let beta = sharpness(stage);
+    let bend = Bend { beta, project_at };
     oc_start::free_volumes(volumes, passive, free);
     let grey = oc_record::grey(density, &free[..], lists::sum(&free[..]));
     slopes_into(
         sharpen,
-        beta,
+        bend,
         energies,
         passive,
         starts,
@@ -234,7 +240,7 @@ pub fn solve(
         move_at(sharpen, beta),
         oc_goal::target(fraction, total),
         oc_goal::tolerance(total),
-        rule_at(sharpen, beta, solid),
+        rule_at(sharpen, bend, solid),
         starts,
         near,
         coef,

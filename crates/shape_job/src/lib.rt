@@ -30,6 +30,7 @@ pub fn fresh() -> State
             fraction: 0.0,
             sharpen: false,
             max_iterations: 0,
+            project_at: 0.0,
         },
         progress: Progress {
             rounds: 0,

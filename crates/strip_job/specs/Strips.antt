@@ -2,7 +2,7 @@
 use Prim.Native.Nat.{ℕ}
 use mathlib.Core.Bool.{_||_}
 use lib.Dec.{ltb}
-use lib.Ieee.{ofBits, binary64}
+use lib.Ieee.{Float, ofBits, binary64}
 use Rattle.lists.specs.Lists.{choose}
 use Rattle.topo.specs.declared.Goal.{Goal}
 use Rattle.strip.specs.declared.Job.{Job}
@@ -19,6 +19,10 @@ abbrev pub jobIn : Answer → Job → Job
 jobIn (Refused n) none = none
 jobIn (Read job) none = job
 
+-- 0.5: "A strip job turns at 0.5."
+abbrev pub projectAt : Float
+projectAt = ofBits binary64 0x3fe0_0000_0000_0000
+
 -- its numbers are floats from here on
 abbrev pub goalOf : Job → Goal
-goalOf job = record { fraction = ofBits binary64 (job .fraction); radius = ofBits binary64 (job .radius); sharpen = job .sharpen; «max_iterations» = job .«max_iterations» }
+goalOf job = record { fraction = ofBits binary64 (job .fraction); radius = ofBits binary64 (job .radius); sharpen = job .sharpen; «max_iterations» = job .«max_iterations»; «project_at» = projectAt }

@@ -42,5 +42,6 @@ pub fn goal(job: Job) -> Goal
         radius: ieee_bits::from_bits(job.radius),
         sharpen: job.sharpen,
         max_iterations: job.max_iterations,
+        project_at: topo::PROJECT_AT,
     }
 }

@@ -19,7 +19,7 @@ pub const MOVE: f64 = 0.2;
 pub const STAGES: [f64; 5] = [1.0, 2.0, 4.0, 8.0, 16.0];
 // The most rounds at one stage before the next.
 pub const STAGE_ITERATIONS: usize = 20;
-// The density that sharpening turns about.
+// The density that sharpening turns about in a strip job.
 pub const PROJECT_AT: f64 = 0.5;
 // The design has settled when no density changes by this much in a round,
 pub const SETTLED: f64 = 0.01;
@@ -40,6 +40,8 @@ pub struct Goal {
     pub sharpen: bool,
     // the most rounds
     pub max_iterations: usize,
+    // the density that sharpening turns about, from 0.25 to 0.75
+    pub project_at: f64,
 }
 
 // One round, as it is told.

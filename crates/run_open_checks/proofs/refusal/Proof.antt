@@ -9,8 +9,11 @@ use Rattle.run_open_checks.proofs.refusal.Statement.{statement}
 use Rattle.run_open_checks.proofs.refusal.Tie as tie
 
 -- ---- the chain's places, the last link first, each by its refusal's number; its test stands one place before it
-abbrev link5 : tie.After-first7 → tie.After-first6
+abbrev link5 : tie.After-first8 → tie.After-first7
 link5 c = c .before .before
+
+abbrev link28 : tie.After-first7 → tie.After-first6
+link28 c = c .before .before
 
 abbrev link6 : tie.After-first6 → tie.After-first5
 link6 c = c .before .before
@@ -108,22 +111,29 @@ first-requires-4 c κs = search needs
 first-requires-5 : tie.Need-first-requires-5
 first-requires-5 c κs = search needs
 
-fraction-bad-requires : tie.Need-fraction-bad-requires
-fraction-bad-requires c κs = search needs
+turn-bad-requires : tie.Need-turn-bad-requires
+turn-bad-requires c κs = search needs
 
 first-requires-6 : tie.Need-first-requires-6
 first-requires-6 c κs = search needs
 
-volumes-bad-requires : tie.Need-volumes-bad-requires
-volumes-bad-requires c κs = search needs
+fraction-bad-requires : tie.Need-fraction-bad-requires
+fraction-bad-requires c κs = search needs
 
 first-requires-7 : tie.Need-first-requires-7
 first-requires-7 c κs = search needs
 
+volumes-bad-requires : tie.Need-volumes-bad-requires
+volumes-bad-requires c κs = search needs
+
+first-requires-8 : tie.Need-first-requires-8
+first-requires-8 c κs = search needs
+
 returns-4 : tie.Need-returns-4
 returns-4 c =
     let l5 = link5 c in
-    let l6 = link6 l5 in
+    let l28 = link28 l5 in
+    let l6 = link6 l28 in
     let l7 = link7 l6 in
     let l8 = link8 l7 in
     let l9 = link9 l8 in
@@ -133,11 +143,11 @@ returns-4 c =
     let e3 = few t in
     let e2 = some e3 in
     let e1 = alike e2 in
-    rest-is (asked (e1 .before)) _ _ _ _ _ _ _ _ _ _ _ _ _ _ _ _ _ (e1 .if1 .left) (e2 .if2 .left) (e3 .if3 .left)
+    rest-is (asked (e1 .before)) _ _ _ _ _ _ _ _ _ _ _ _ _ _ _ _ _ _ _ (e1 .if1 .left) (e2 .if2 .left) (e3 .if3 .left)
     (t .before .before .sum .ensures) (t .before .solid-volume .ensures) (t .target .ensures) (l14 .before .too-short .ensures) (l14 .first .ensures)
     (l10 .refusal .ensures) (l9 .before .points-bad .ensures) (l9 .first2 .ensures) (l8 .before .radius-bad .ensures) (l8 .first3 .ensures)
-    (l7 .before .no-room .ensures) (l7 .first4 .ensures) (l6 .first5 .ensures) (l5 .before .fraction-bad .ensures) (l5 .first6 .ensures)
-    (c .before .volumes-bad .ensures) (c .first7 .ensures)
+    (l7 .before .no-room .ensures) (l7 .first4 .ensures) (l6 .first5 .ensures) (l28 .before .turn-bad .ensures) (l28 .first6 .ensures)
+    (l5 .before .fraction-bad .ensures) (l5 .first7 .ensures) (c .before .volumes-bad .ensures) (c .first8 .ensures)
 
 pub refusal-spec : {M : Type 1} → statement M
 refusal-spec =
@@ -159,8 +169,10 @@ refusal-spec =
     no-room-requires
     first-requires-4
     first-requires-5
-    fraction-bad-requires
+    turn-bad-requires
     first-requires-6
-    volumes-bad-requires
+    fraction-bad-requires
     first-requires-7
+    volumes-bad-requires
+    first-requires-8
     returns-4)

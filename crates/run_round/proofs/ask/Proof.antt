@@ -2,6 +2,7 @@
 use denote.Ref.{now}
 use lib.Ieee.{Float}
 use Rattle.lists.specs.Lists.{choose}
+use Rattle.oc_project.specs.Project.{bendOf}
 use Rattle.oc_seen.specs.declared.Sharpness.{Sharpness}
 use Rattle.oc_seen.specs.declared.Sharpness.the-variants.{Off, At}
 use Rattle.oc_seen.specs.Seen.{seenDensity}
@@ -43,7 +44,7 @@ returns c =
     let a = at-start seen .args in
     see .see .ensures .0
     ∙ ap (λ (s : Sharpness). seenDensity s (now (a .starts)) (now (a .near)) (now (a .coef)) (now (a .passive)) (now (a .design)))
-    (seen .seen-at .ensures ∙ ap (λ (b : Float). choose (a .sharpen) (At b) Off) (seen .before .sharpness .ensures))
+    (seen .seen-at .ensures ∙ ap (λ (b : Float). choose (a .sharpen) (At (bendOf b (a .«project_at»))) Off) (seen .before .sharpness .ensures))
 
 pub ask-spec : {M : Type 1} → statement M
 ask-spec =

@@ -131,7 +131,7 @@ returns c =
     let free : tie.After-free-volumes = at-free grey in
     let sharpness : tie.After-sharpness = at-sharpness free in
     let a = at-start sharpness .args in
-    solved-is (now (a .volumes)) (now (a .passive)) (now (a .starts)) (now (a .near)) (now (a .coef)) (a .fraction) (a .sharpen) (a .stage) (now (a .design)) (now (a .density)) (now (a .energies))
+    solved-is (now (a .volumes)) (now (a .passive)) (now (a .starts)) (now (a .near)) (now (a .coef)) (a .fraction) (a .sharpen) (a .«project_at») (a .stage) (now (a .design)) (now (a .density)) (now (a .energies))
     _ _ _ _ _ _ _ _ _ _ _ _ _ _ _ _ _ _ (a .number)
     (sharpness .before .before .sum .ensures) (sharpness .before .solid-volume .ensures) (sharpness .sharpness .ensures) (free .free-volumes .ensures)
     (grey .before .sum2 .ensures) (grey .grey .ensures) (slopes .slopes-into .ensures)

@@ -1,5 +1,6 @@
 -- `goal` meets its contract. Assumes nothing.
 use borrow.Author.Needs.{needs}
+use Rattle.strip_job.specs.Strips.{projectAt}
 use Rattle.strip_job.proofs.goal.Statement.{statement}
 use Rattle.strip_job.proofs.goal.Tie as tie
 
@@ -11,7 +12,7 @@ from-bits-requires-2 c κs = search needs
 
 returns : tie.Need-returns
 returns c i =
-    record { fraction = c .before .from-bits .ensures i; radius = c .from-bits2 .ensures i; sharpen = c .before .before .args .job .sharpen; «max_iterations» = c .before .before .args .job .«max_iterations» }
+    record { fraction = c .before .from-bits .ensures i; radius = c .from-bits2 .ensures i; sharpen = c .before .before .args .job .sharpen; «max_iterations» = c .before .before .args .job .«max_iterations»; «project_at» = projectAt }
 
 pub goal-spec : {M : Type 1} → statement M
 goal-spec = tie.close (tie.spec from-bits-requires from-bits-requires-2 returns)

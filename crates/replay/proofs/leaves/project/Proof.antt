@@ -1,4 +1,4 @@
--- `leaves::project` gives `project` what `at_steepness` worked out. Assumes nothing.
+-- `leaves::project` gives `project` what `at_bend` worked out. Assumes nothing.
 use mathlib.Core.Path.{sym, ap, _∙_}
 use borrow.Author.Needs.{needs}
 use Rattle.oc_project.specs.Project.{belowOf, wholeOf}
@@ -11,12 +11,12 @@ number-requires c κs = search needs
 number-requires-2 : tie.Need-number-requires-2
 number-requires-2 c κs = search needs
 
-at-steepness-requires : tie.Need-at-steepness-requires
-at-steepness-requires c κs = search needs
+at-bend-requires : tie.Need-at-bend-requires
+at-bend-requires c κs = search needs
 
 project-requires : tie.Need-project-requires
 project-requires c κs =
-    let e = c .at-steepness .ensures in
+    let e = c .at-bend .ensures in
     (e .1 ∙ ap belowOf (sym (e .0)), e .2 ∙ ap wholeOf (sym (e .0)))
 
 number-requires-3 : tie.Need-number-requires-3
@@ -40,7 +40,7 @@ project-spec =
     (tie.spec
     number-requires
     number-requires-2
-    at-steepness-requires
+    at-bend-requires
     project-requires
     number-requires-3
     number-requires-4

@@ -7,6 +7,7 @@ use lib.ListN.{take}
 use lib.Ieee.{Float}
 use denote.Ref.{now}
 use Rattle.lists.specs.Lists.{choose}
+use Rattle.oc_project.specs.Project.{bendOf}
 use Rattle.oc_seen.specs.declared.Sharpness.the-variants.{Off, At}
 use Rattle.oc_seen.specs.Seen.{seenDensity}
 use Rattle.run_plain.specs.Formulas.{sharpness}
@@ -32,7 +33,7 @@ start c = c .before .before .before .before .before .before .before .before
 -- the question by the starts, of which the code counts one more than elements
 abbrev seen : tie.Start → List ℕ → List Float
 seen b s =
-    seenDensity (choose (b .args .state .setting .sharpen) (At (sharpness (steepAt (b .args .stage)))) Off)
+    seenDensity (choose (b .args .state .setting .sharpen) (At (bendOf (sharpness (steepAt (b .args .stage))) (b .args .state .setting .«project_at»))) Off)
     s (take (b .args .state .setting .entries) (now (b .args .near))) (take (b .args .state .setting .entries) (now (b .args .coef)))
     (take (b .args .state .setting .elements) (now (b .args .passive))) (take (b .args .state .setting .elements) (now (b .args .design)))
 

@@ -47,7 +47,7 @@ abbrev case : tie.Start → List ℕ → Case
 case b s =
     caseAt (take (elements b) (now (b .args .volumes))) (take (elements b) (now (b .args .passive)))
     s (take (b .args .state .setting .entries) (now (b .args .near))) (take (b .args .state .setting .entries) (now (b .args .coef)))
-    (b .args .state .setting .fraction) (b .args .state .setting .sharpen)
+    (b .args .state .setting .fraction) (b .args .state .setting .sharpen) (b .args .state .setting .«project_at»)
 
 -- ---- the needs
 slice-aggregate-copy : tie.Need-slice-aggregate-copy
