@@ -224,4 +224,4 @@ module _ (o : Opening) (none : firstRefusal o ≡ 0) where
       let cs : Finite (solidOf o) = finite-below (solidOf o) (ct .m) (ct .e) (s .plus) (subst (λ (z : Float). T (le (solidOf o) z)) (ct .is) (s .under)) in
       let b = both (lt zero64 (o .goal .fraction)) (lt (o .goal .fraction) one64) (not-false _ (p .goal .0)) in
       let r = o .goal .fraction in
-      starts-in (totalOf o) (solidOf o) r ct cs (t .fit) (s .fit) (s .under) (positive-of-tests r (b .0) (lt-of-lt-of-le r one64 (inf false) (b .1) (unfold le ofBits in tt))) (lt-le r one64 (b .1)) (p .goal .1 .1 .0)
+      starts-in (totalOf o) (solidOf o) r ct cs (t .fit) (s .fit) (s .under) (positive-of-tests r (b .0) (lt-of-lt-of-le r one64 (inf false) (b .1) (unfold le ofBits in tt))) (lt-le r one64 (b .1)) (p .goal .1 .1 .1 .0)

@@ -111,7 +111,7 @@ fits o e =
     let c = checked o e in
     let same = neither (not (eqb (length (o .centroids)) (elements o))) _ (c .lists .0) in
     let n : elements o ≡ 0 → ⊥ = eqb-false _ _ (c .lists .1 .0) in
-    let z : o .goal .«max_iterations» ≡ 0 → ⊥ = eqb-false _ _ (c .goal .1 .0) in
+    let z : o .goal .«max_iterations» ≡ 0 → ⊥ = eqb-false _ _ (c .goal .1 .1 .0) in
     record {
       centroids = eqb-true _ _ (not-false _ (same .0));
       passive = eqb-true _ _ (not-false _ (same .1));
