@@ -1,4 +1,4 @@
-//! Writes the original's files, edited as `edits.rs` lists, to OUT_DIR, where src/lib.rs takes them from.
+//! Writes the original's files, edited as `edits.rs` lists, to OUT_DIR, where src/lib.rs takes them from; one of them several times.
 //!
 //! The folder of the files is TENON_SRC, else shared/docs/src beside the repository. There crates/fea/src/topo/mod.rs is called
 //! src--crates--fea--src--topo--mod.rs.txt, and the others likewise.
@@ -23,14 +23,19 @@ fn generate() -> Result<(), String> {
         Some(given) => PathBuf::from(given),
         None => here.join("../../../shared/docs/src"),
     };
-    if let Some(stray) = edits::EDITS.iter().find(|e| !edits::FILES.contains(&e.file)) {
+    let compiled = |path: &str| edits::FILES.contains(&path) || edits::AGAIN.iter().any(|(_, copy)| *copy == path);
+    if let Some(stray) = edits::EDITS.iter().find(|e| !compiled(e.file)) {
         return Err(format!("an edit names {}, which is not compiled", stray.file));
     }
     for file in edits::FILES {
         let from = folder.join(format!("src--crates--fea--src--{}.txt", file.replace('/', "--")));
         println!("cargo::rerun-if-changed={}", from.display());
         let text = fs::read_to_string(&from).map_err(|e| format!("cannot read {}: {e} (TENON_SRC names the folder)", from.display()))?;
-        write(&out.join(file), &edits::edited(file, text, edits::EDITS)?)?;
+        let text = edits::edited(file, text, edits::EDITS)?;
+        for (_, copy) in edits::AGAIN.iter().filter(|(of, _)| of == file) {
+            write(&out.join(copy), &edits::edited(copy, text.clone(), edits::EDITS)?)?;
+        }
+        write(&out.join(file), &text)?;
     }
     write(&out.join("root.rs"), "pub mod faces;\npub mod mesh;\npub mod problem;\npub mod tools;\npub mod topo;\n")
 }

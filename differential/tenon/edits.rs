@@ -24,9 +24,23 @@ const fn public(file: &'static str, find: &'static str, put: &'static str) -> Ed
     replace(file, find, put, 1)
 }
 
+/// Makes a copy of oc.rs take another constant for its turning density: `put` is what it takes from mod.rs in that place.
+const fn turned(file: &'static str, put: &'static str) -> Edit {
+    replace(file, "PENALTY, PROJECT_AT, SETTLED,", put, 1)
+}
+
 /// The files that are compiled, by their path below crates/fea/src. A file that no edit names is compiled as it stands.
 pub const FILES: &[&str] =
     &["faces.rs", "mesh.rs", "problem.rs", "tools.rs", "topo/mod.rs", "topo/filter.rs", "topo/oc.rs", "topo/region.rs"];
+
+/// Files that are compiled once more, and the path of the copy: with the file's edits and then those that name the path.
+pub const AGAIN: &[(&str, &str)] = &[
+    ("topo/oc.rs", "topo/at_0_25.rs"),
+    ("topo/oc.rs", "topo/at_0_3.rs"),
+    ("topo/oc.rs", "topo/at_0_4.rs"),
+    ("topo/oc.rs", "topo/at_0_618.rs"),
+    ("topo/oc.rs", "topo/at_0_75.rs"),
+];
 
 pub const EDITS: &[Edit] = &[
     // Modules that are out of scope, or not among the files.
@@ -84,6 +98,27 @@ pub const EDITS: &[Edit] = &[
     public("topo/oc.rs", "\nfn volume_slope(", "\npub fn volume_slope("),
     public("topo/oc.rs", "\nfn work_slope(", "\npub fn work_slope("),
     public("topo/oc.rs", "\nfn update(", "\npub fn update("),
+    //
+    // CR 8: "a turning density from 0.25 to 0.75 which takes the half's place throughout the projection": the loop once more at each of some, with another
+    // constant under the name that its formulas have. src/turned.rs lists them.
+    replace(
+        "topo/mod.rs",
+        "pub mod oc;\n",
+        "pub mod at_0_25;\npub mod at_0_3;\npub mod at_0_4;\npub mod at_0_618;\npub mod at_0_75;\npub mod oc;\n",
+        1,
+    ),
+    replace(
+        "topo/mod.rs",
+        "pub const PROJECT_AT: f64 = 0.5;\n",
+        "pub const PROJECT_AT: f64 = 0.5;\npub const AT_0_25: f64 = 0.25;\npub const AT_0_3: f64 = 0.3;\npub const AT_0_4: f64 = 0.4;\n\
+         pub const AT_0_618: f64 = 0.618;\npub const AT_0_75: f64 = 0.75;\n",
+        1,
+    ),
+    turned("topo/at_0_25.rs", "PENALTY, AT_0_25 as PROJECT_AT, SETTLED,"),
+    turned("topo/at_0_3.rs", "PENALTY, AT_0_3 as PROJECT_AT, SETTLED,"),
+    turned("topo/at_0_4.rs", "PENALTY, AT_0_4 as PROJECT_AT, SETTLED,"),
+    turned("topo/at_0_618.rs", "PENALTY, AT_0_618 as PROJECT_AT, SETTLED,"),
+    turned("topo/at_0_75.rs", "PENALTY, AT_0_75 as PROJECT_AT, SETTLED,"),
 ];
 
 /// The text of `file` after its edits in turn, or what is wrong with it.

@@ -7,6 +7,7 @@ extern crate self as tenon_geom;
 extern crate self as tenon_model;
 
 pub mod stand_ins;
+pub mod turned;
 pub use stand_ins::{Vec3, study};
 
 include!(concat!(env!("OUT_DIR"), "/root.rs"));
