@@ -5,7 +5,7 @@ use std::time::Instant;
 
 use crate::rounds::{BLOCKS, Block, RADIUS, grouped};
 use sokdrib::filter::{Into, Work, build};
-use sokdrib::oc::{self, Aim, Next, Rule, Seen};
+use sokdrib::oc::{self, Aim, Bend, Next, Rule, Seen};
 use sokdrib::table::Table;
 use tenon::topo::{self, MOVE, level_of};
 
@@ -77,19 +77,19 @@ pub fn update(sharpened: bool, above_one: bool) {
     lists.build(&middles(&block), volumes);
     let entries = lists.starts[n] as usize;
     let t = Table { starts: &lists.starts, near: &lists.near[..entries], coef: &lists.coef[..entries] };
-    let beta = sharpened.then_some(4.0);
+    let bend = sharpened.then_some(Bend::at_half(4.0));
     let [mut x, mut free, mut density, mut slope, mut own, mut dc, mut dv, mut next, mut gain, mut work] =
         std::array::from_fn(|_| vec![0.0; n]);
     let told = oc::start(volumes, passive, 0.4, &mut x, &mut free).and_then(|start| {
-        oc::see(t, passive, &x, beta, Seen { density: &mut density, slope: &mut slope })?;
+        oc::see(t, passive, &x, bend, Seen { density: &mut density, slope: &mut slope })?;
         let energies: Vec<f64> = block.weights.iter().zip(&density).map(|(w, v)| w / (2.0 * topo::modulus(level_of(*v), 1.0))).collect();
         oc::work_slope(t, passive, &density, &slope, &energies, &mut own, &mut dc)?;
         oc::volume_slope(t, &slope, &free, &mut own, &mut dv)?;
         if above_one {
             x[0] = 1.5;
         }
-        let rule = beta.map_or(Rule::Straight(start.solid), Rule::Sharpened);
-        let m = MOVE / beta.unwrap_or(1.0).sqrt();
+        let rule = bend.map_or(Rule::Straight(start.solid), Rule::Sharpened);
+        let m = MOVE / bend.map_or(1.0, |b| b.beta).sqrt();
         let aim = Aim { dc: &dc, dv: &dv, m, target: start.target, tolerance: start.tolerance, rule };
         oc::kept(rule, &dv, t, volumes, passive, &x, &mut density)?;
         oc::update(&x, aim, t, volumes, passive, Next { design: &mut next, gain: &mut gain, work: &mut work })

@@ -4,18 +4,20 @@ use std::time::Instant;
 
 use crate::Random;
 use sokdrib::filter::{Into, Work, build};
-use sokdrib::oc::{self, Aim, Next, Rule, Seen};
+use sokdrib::oc::{self, Aim, Bend, Next, Rule, Seen};
 use sokdrib::table::Table;
 use tenon::mesh::TetMesh;
 use tenon::stand_ins::ended;
 use tenon::topo::oc as original;
-use tenon::topo::{Design, Filter, MOVE, Mirror, level_of};
-use tenon::{Vec3, topo};
+use tenon::topo::{Design, Filter, MOVE, Mirror, PROJECT_AT, level_of};
+use tenon::{Vec3, topo, turned};
 
 /// Cells of a block, each six tetrahedra: about 1,000, 8,000 and 64,000 of them.
 pub const BLOCKS: [[usize; 3]; 3] = [[5, 6, 6], [11, 11, 11], [22, 22, 22]];
 /// In cells.
 pub const RADIUS: f64 = 1.5;
+/// Another turning density than a half, for which the original is compiled too.
+pub const TURNED: f64 = 0.4;
 /// How long each side of a line is timed for at least.
 const SECONDS: f64 = 0.3;
 /// How long one timing takes at least: a short call is made many times over.
@@ -123,7 +125,7 @@ fn products(repetitions: usize, block: &Block, planes: usize, filter: &Filter) {
     line(&name("back"), &entries, best(repetitions, ours, || drop(black_box(filter.back(black_box(&block.weights))))));
 }
 
-/// The first update of a run, unsharpened, and one sharpened at each steepness.
+/// The first update of a run, unsharpened, and one sharpened at each steepness; before one of these the same about another density than a half.
 fn updates(repetitions: usize, block: &Block, filter: &Filter) {
     let Design { volumes, passive, .. } = &block.design;
     let n = volumes.len();
@@ -131,12 +133,15 @@ fn updates(repetitions: usize, block: &Block, filter: &Filter) {
     let [mut x, mut free, mut density, mut slope, mut own, mut dc, mut dv, mut next, mut gain, mut work] =
         std::array::from_fn(|_| vec![0.0; n]);
     let Ok(start) = oc::start(volumes, passive, 0.4, &mut x, &mut free) else { return };
-    for beta in [None, Some(1.0), Some(4.0), Some(16.0)] {
-        let mut sure = oc::see(t, passive, &x, beta, Seen { density: &mut density, slope: &mut slope }).is_ok();
+    let half = |beta| Some(Bend::at_half(beta));
+    for bend in [None, half(1.0), Some(Bend { beta: 4.0, project_at: TURNED }), half(4.0), half(16.0)] {
+        let beta = bend.map(|b| b.beta);
+        let turned = turned::at(bend.map_or(PROJECT_AT, |b| b.project_at)).expect("the original is compiled for it");
+        let mut sure = oc::see(t, passive, &x, bend, Seen { density: &mut density, slope: &mut slope }).is_ok();
         let energies: Vec<f64> = block.weights.iter().zip(&density).map(|(w, v)| w / (2.0 * topo::modulus(level_of(*v), 1.0))).collect();
         sure &= oc::work_slope(t, passive, &density, &slope, &energies, &mut own, &mut dc).is_ok();
         sure &= oc::volume_slope(t, &slope, &free, &mut own, &mut dv).is_ok();
-        let rule = beta.map_or(Rule::Straight(start.solid), Rule::Sharpened);
+        let rule = bend.map_or(Rule::Straight(start.solid), Rule::Sharpened);
         let m = MOVE / beta.unwrap_or(1.0).sqrt();
         let aim = Aim { dc: &dc, dv: &dv, m, target: start.target, tolerance: start.tolerance, rule };
         let mut rust = Vec::new();
@@ -149,15 +154,22 @@ fn updates(repetitions: usize, block: &Block, filter: &Filter) {
             || {
                 let mut kept = |y: &[f64]| match beta {
                     None => start.solid + original::dot(&dv, y),
-                    beta => original::kept(filter, &block.design, y, beta),
+                    beta => (turned.kept)(filter, &block.design, y, beta),
                 };
                 rust = original::update(black_box(&x), &dc, &dv, passive, m, start.target, start.tolerance, &mut kept);
             },
         );
         assert!(sure && rust == next, "both sides give the same design");
-        let name = beta.map_or("update, unsharpened".into(), |b| format!("update, steepness {b}"));
+        let name = beta.map_or("update, unsharpened".into(), |b| format!("update, steepness {b}{}", about(turned.project_at)));
         line(&format!("{name}, {} elements", grouped(n)), &format!("{} passes", ended().passes), times);
         // The next steepness goes on from here.
-        x.copy_from_slice(&next);
+        if turned.project_at == PROJECT_AT {
+            x.copy_from_slice(&next);
+        }
     }
+}
+
+/// What a line's name says of its turning density, where it is not a half.
+pub fn about(project_at: f64) -> String {
+    if project_at == PROJECT_AT { String::new() } else { format!(" about {project_at}") }
 }

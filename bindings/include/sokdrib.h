@@ -48,11 +48,12 @@
  *   21  a boundary triangle names a node that is not there. Left: kept. By: passive, asymmetry.
  *   22  the job strip is malformed. Left: kept. By: the calls of strip_stream and strip_read, program shape: none of
  *       C's.
+ *   28  turning density (project_at) not from 0.25 to 0.75, sharpened or not. Left: kept. By: open.
  *   29  level_with: no level's modulus is the one given; level_below: a number below the lowest modulus or above the
  *       highest, or not a number. Left: kept: nothing is lent. By: level_with, level_below.
  *
- * Where several apply, the first of these is given. open: 20, 1 to 12, 14; row by row 13, 14; last 15. filter_build: the
- * same without 20, 5, 6, 7 and 15. answer: 20, 14; 15 or 18 as the solver said; 16, 17, 19, last 15. Mesh calls (design,
+ * Where several apply, the first of these is given. open: 20, 1 to 5, 28, 6 to 12, 14; row by row 13, 14; last 15. filter_build:
+ * the same without 20, 5, 28, 6, 7 and 15. answer: 20, 14; 15 or 18 as the solver said; 16, 17, 19, last 15. Mesh calls (design,
  * block, passive, asymmetry, off_centre): those that they have of 3, 21, 9, 11, 8, 14. Parts of a round (start, see,
  * work_slope, volume_slope, kept, update): 1, 14. A strip: 22, 14. The way back from a stiffness: 29. Every other call is a leaf or works with whatever it
  * is given, and refuses nothing. */
@@ -128,6 +129,7 @@ typedef struct {
     double fraction;
     bool sharpen;
     size_t max_iterations;
+    double project_at;
     size_t rounds;
     size_t stage;
     size_t at_stage;
@@ -141,6 +143,7 @@ typedef struct {
     double radius;
     bool sharpen;
     size_t max_iterations;
+    double project_at;
 } SokdribRunGoal;
 
 typedef struct {
@@ -190,12 +193,12 @@ _Static_assert(sizeof(SokdribOffCentre) == 24, "SokdribOffCentre");
 _Static_assert(sizeof(SokdribStart) == 48, "SokdribStart");
 _Static_assert(sizeof(SokdribProjected) == 16, "SokdribProjected");
 _Static_assert(sizeof(SokdribKept) == 16, "SokdribKept");
-_Static_assert(sizeof(SokdribRunState) == 96, "SokdribRunState");
-_Static_assert(sizeof(SokdribRunGoal) == 32, "SokdribRunGoal");
-_Static_assert(sizeof(SokdribRunReturned) == 112, "SokdribRunReturned");
+_Static_assert(sizeof(SokdribRunState) == 104, "SokdribRunState");
+_Static_assert(sizeof(SokdribRunGoal) == 40, "SokdribRunGoal");
+_Static_assert(sizeof(SokdribRunReturned) == 120, "SokdribRunReturned");
 _Static_assert(sizeof(SokdribRunHeard) == 24, "SokdribRunHeard");
 _Static_assert(sizeof(SokdribRunRecord) == 56, "SokdribRunRecord");
-_Static_assert(sizeof(SokdribRunStep) == 176, "SokdribRunStep");
+_Static_assert(sizeof(SokdribRunStep) == 184, "SokdribRunStep");
 _Static_assert(sizeof(SokdribUpdate) == 32, "SokdribUpdate");
 #endif
 
@@ -496,11 +499,11 @@ SokdribStart sokdrib_start(
     size_t free_len
 );
 
-/* A filtered density v sharpened at the steepness beta, and how fast it moves with v. */
-SokdribProjected sokdrib_project(double v, double beta);
+/* A filtered density v sharpened at the steepness beta, turning at project_at, and how fast it moves with v. */
+SokdribProjected sokdrib_project(double v, double beta, double project_at);
 
-/* What a solve is given from the design x: each element's density, filtered, and sharpened at the steepness beta where sharpen is set,
- * 1 where it is passive; and how fast each moves with its filtered density. Gives 0, 1 or 14. */
+/* What a solve is given from the design x: each element's density, filtered, and sharpened at the steepness beta, turning at project_at,
+ * where sharpen is set, 1 where it is passive; and how fast each moves with its filtered density. Gives 0, 1 or 14. */
 uint32_t sokdrib_see(
     const uint32_t *starts,
     size_t starts_len,
@@ -514,6 +517,7 @@ uint32_t sokdrib_see(
     size_t x_len,
     bool sharpen,
     double beta,
+    double project_at,
     double *density,
     size_t density_len,
     double *slope,
@@ -563,10 +567,11 @@ uint32_t sokdrib_volume_slope(
 );
 
 /* The volume that a design y keeps. Rule 0: along the slope straight of the volume, from value, the volume held solid. Any other rule: of the
- * densities that a solve would see at the steepness value. density is for the call's own use. */
+ * densities that a solve would see at the steepness value, turning at project_at. density is for the call's own use. */
 SokdribKept sokdrib_kept(
     uint32_t rule,
     double value,
+    double project_at,
     const double *straight,
     size_t straight_len,
     const uint32_t *starts,
@@ -682,7 +687,7 @@ SokdribRunStep sokdrib_answer(
 );
 
 /* One update of the design x, from the slopes dc of the work and dv of the volume: each value moved by at most m, the rate found at which the
- * volume kept is within tolerance of target. The rule and its value are those of sokdrib_kept, with dv for the slope of the volume. design is
+ * volume kept is within tolerance of target. The rule, its value and project_at are those of sokdrib_kept, with dv for the slope of the volume. design is
  * left the updated design; gain and work are for the call's own use. */
 SokdribUpdate sokdrib_update(
     const double *x,
@@ -698,6 +703,7 @@ SokdribUpdate sokdrib_update(
     double tolerance,
     uint32_t rule,
     double value,
+    double project_at,
     const uint32_t *starts,
     size_t starts_len,
     const uint32_t *near_,

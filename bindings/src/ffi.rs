@@ -94,6 +94,7 @@ pub struct RunState {
     pub fraction: f64,
     pub sharpen: bool,
     pub max_iterations: usize,
+    pub project_at: f64,
     pub rounds: usize,
     pub stage: usize,
     pub at_stage: usize,
@@ -101,7 +102,7 @@ pub struct RunState {
     pub solid_compliance: f64,
     pub compliance: f64,
 }
-const _: () = assert!(size_of::<RunState>() == 96 && align_of::<RunState>() == 8);
+const _: () = assert!(size_of::<RunState>() == 104 && align_of::<RunState>() == 8);
 
 #[repr(C)]
 #[derive(Clone, Copy, Debug, Default, PartialEq)]
@@ -110,8 +111,9 @@ pub struct RunGoal {
     pub radius: f64,
     pub sharpen: bool,
     pub max_iterations: usize,
+    pub project_at: f64,
 }
-const _: () = assert!(size_of::<RunGoal>() == 32 && align_of::<RunGoal>() == 8);
+const _: () = assert!(size_of::<RunGoal>() == 40 && align_of::<RunGoal>() == 8);
 
 #[repr(C)]
 #[derive(Clone, Copy, Debug, Default, PartialEq)]
@@ -120,7 +122,7 @@ pub struct RunReturned {
     pub reply: u32,
     pub number: usize,
 }
-const _: () = assert!(size_of::<RunReturned>() == 112 && align_of::<RunReturned>() == 8);
+const _: () = assert!(size_of::<RunReturned>() == 120 && align_of::<RunReturned>() == 8);
 
 #[repr(C)]
 #[derive(Clone, Copy, Debug, Default, PartialEq)]
@@ -152,7 +154,7 @@ pub struct RunStep {
     pub at: usize,
     pub entry: RunRecord,
 }
-const _: () = assert!(size_of::<RunStep>() == 176 && align_of::<RunStep>() == 8);
+const _: () = assert!(size_of::<RunStep>() == 184 && align_of::<RunStep>() == 8);
 
 #[repr(C)]
 #[derive(Clone, Copy, Debug, Default, PartialEq)]
@@ -390,8 +392,8 @@ mod library {
             free: *mut f64,
             free_len: usize,
         ) -> Start;
-        /// A filtered density v sharpened at the steepness beta, and how fast it moves with v.
-        pub safe fn sokdrib_project(v: f64, beta: f64) -> Projected;
+        /// A filtered density v sharpened at the steepness beta, turning at project_at, and how fast it moves with v.
+        pub safe fn sokdrib_project(v: f64, beta: f64, project_at: f64) -> Projected;
         pub unsafe fn sokdrib_see(
             starts: *const u32,
             starts_len: usize,
@@ -405,6 +407,7 @@ mod library {
             x_len: usize,
             sharpen: bool,
             beta: f64,
+            project_at: f64,
             density: *mut f64,
             density_len: usize,
             slope: *mut f64,
@@ -449,6 +452,7 @@ mod library {
         pub unsafe fn sokdrib_kept(
             rule: u32,
             value: f64,
+            project_at: f64,
             straight: *const f64,
             straight_len: usize,
             starts: *const u32,
@@ -559,6 +563,7 @@ mod library {
             tolerance: f64,
             rule: u32,
             value: f64,
+            project_at: f64,
             starts: *const u32,
             starts_len: usize,
             near: *const u32,
@@ -830,8 +835,8 @@ pub fn sokdrib_start(volumes: &[f64], passive: &[bool], fraction: f64, design: &
     ) }
 }
 
-/// What a solve is given from the design x: each element's density, filtered, and sharpened at the steepness beta where sharpen is set,
-/// 1 where it is passive; and how fast each moves with its filtered density. Gives 0, 1 or 14.
+/// What a solve is given from the design x: each element's density, filtered, and sharpened at the steepness beta, turning at project_at,
+/// where sharpen is set, 1 where it is passive; and how fast each moves with its filtered density. Gives 0, 1 or 14.
 #[allow(clippy::too_many_arguments)]
 pub fn sokdrib_see(
     starts: &[u32],
@@ -841,6 +846,7 @@ pub fn sokdrib_see(
     x: &[f64],
     sharpen: bool,
     beta: f64,
+    project_at: f64,
     density: &mut [f64],
     slope: &mut [f64],
 ) -> u32 {
@@ -853,6 +859,7 @@ pub fn sokdrib_see(
         x.as_ptr(), x.len(),
         sharpen,
         beta,
+        project_at,
         density.as_mut_ptr(), density.len(),
         slope.as_mut_ptr(), slope.len()
     ) }
@@ -910,11 +917,12 @@ pub fn sokdrib_volume_slope(
 }
 
 /// The volume that a design y keeps. Rule 0: along the slope straight of the volume, from value, the volume held solid. Any other rule: of the
-/// densities that a solve would see at the steepness value. density is for the call's own use.
+/// densities that a solve would see at the steepness value, turning at project_at. density is for the call's own use.
 #[allow(clippy::too_many_arguments)]
 pub fn sokdrib_kept(
     rule: u32,
     value: f64,
+    project_at: f64,
     straight: &[f64],
     starts: &[u32],
     near: &[u32],
@@ -928,6 +936,7 @@ pub fn sokdrib_kept(
     unsafe { library::sokdrib_kept(
         rule,
         value,
+        project_at,
         straight.as_ptr(), straight.len(),
         starts.as_ptr(), starts.len(),
         near.as_ptr(), near.len(),
@@ -1065,7 +1074,7 @@ pub fn sokdrib_answer(
 }
 
 /// One update of the design x, from the slopes dc of the work and dv of the volume: each value moved by at most m, the rate found at which the
-/// volume kept is within tolerance of target. The rule and its value are those of sokdrib_kept, with dv for the slope of the volume. design is
+/// volume kept is within tolerance of target. The rule, its value and project_at are those of sokdrib_kept, with dv for the slope of the volume. design is
 /// left the updated design; gain and work are for the call's own use.
 #[allow(clippy::too_many_arguments)]
 pub fn sokdrib_update(
@@ -1078,6 +1087,7 @@ pub fn sokdrib_update(
     tolerance: f64,
     rule: u32,
     value: f64,
+    project_at: f64,
     starts: &[u32],
     near: &[u32],
     coef: &[f64],
@@ -1097,6 +1107,7 @@ pub fn sokdrib_update(
         tolerance,
         rule,
         value,
+        project_at,
         starts.as_ptr(), starts.len(),
         near.as_ptr(), near.len(),
         coef.as_ptr(), coef.len(),

@@ -3,6 +3,7 @@
 //! Lists have one place an element. A call that gives a `Result` refuses lists that differ in count with 1, and a list to write that is
 //! shorter with 14; then all lists are as before. Of a longer one the rest stays as it is. The others go as far as the shorter list.
 use crate::table::Table;
+use crate::topo::PROJECT_AT;
 use crate::{Refused, ffi, refusal};
 pub use ffi::Start;
 
@@ -17,9 +18,23 @@ pub fn start(volumes: &[f64], passive: &[bool], fraction: f64, design: &mut [f64
     refusal(start.refused).map(|()| start)
 }
 
-/// A filtered density `v` sharpened at the steepness `beta`, and how fast it moves with `v`.
-pub fn project(v: f64, beta: f64) -> (f64, f64) {
-    let p = ffi::sokdrib_project(v, beta);
+/// How sharpening bends a density: its steepness, and the density that it turns about.
+#[derive(Clone, Copy, Debug, PartialEq)]
+pub struct Bend {
+    pub beta: f64,
+    pub project_at: f64,
+}
+
+impl Bend {
+    /// At this steepness, about a half.
+    pub fn at_half(beta: f64) -> Bend {
+        Bend { beta, project_at: PROJECT_AT }
+    }
+}
+
+/// A filtered density `v` sharpened, and how fast it moves with `v`.
+pub fn project(v: f64, bend: Bend) -> (f64, f64) {
+    let p = ffi::sokdrib_project(v, bend.beta, bend.project_at);
     (p.density, p.slope)
 }
 
@@ -29,10 +44,10 @@ pub struct Seen<'a> {
     pub slope: &'a mut [f64],
 }
 
-/// What a solve is given from the design `x`: filtered, and sharpened at the steepness `beta` if there is one, 1 where passive.
-pub fn see(t: Table<'_>, passive: &[bool], x: &[f64], beta: Option<f64>, seen: Seen<'_>) -> Result<(), Refused> {
-    let (sharpen, beta) = (beta.is_some(), beta.unwrap_or(1.0));
-    refusal(ffi::sokdrib_see(t.starts, t.near, t.coef, passive, x, sharpen, beta, seen.density, seen.slope))
+/// What a solve is given from the design `x`: filtered, and sharpened if there is a bend, 1 where passive.
+pub fn see(t: Table<'_>, passive: &[bool], x: &[f64], bend: Option<Bend>, seen: Seen<'_>) -> Result<(), Refused> {
+    let Bend { beta, project_at } = bend.unwrap_or(Bend::at_half(1.0));
+    refusal(ffi::sokdrib_see(t.starts, t.near, t.coef, passive, x, bend.is_some(), beta, project_at, seen.density, seen.slope))
 }
 
 /// How the work of the loads goes with each design value, from what the solve saw and the energies that it gave. `by_density` is for
@@ -60,15 +75,16 @@ pub fn volume_slope(t: Table<'_>, slope: &[f64], free: &[f64], by_density: &mut 
 pub enum Rule {
     /// Along the slope of the volume, from the volume held solid.
     Straight(f64),
-    /// Of the densities that a solve would see at this steepness.
-    Sharpened(f64),
+    /// Of the densities that a solve would see, so sharpened.
+    Sharpened(Bend),
 }
 
 impl Rule {
-    fn numbers(self) -> (u32, f64) {
+    /// The rule's number, its value, and the turning density, which a straight one does not look at.
+    fn numbers(self) -> (u32, f64, f64) {
         match self {
-            Rule::Straight(solid) => (0, solid),
-            Rule::Sharpened(beta) => (1, beta),
+            Rule::Straight(solid) => (0, solid, PROJECT_AT),
+            Rule::Sharpened(Bend { beta, project_at }) => (1, beta, project_at),
         }
     }
 }
@@ -84,8 +100,8 @@ pub fn kept(
     y: &[f64],
     density: &mut [f64],
 ) -> Result<f64, Refused> {
-    let (rule, value) = rule.numbers();
-    let kept = ffi::sokdrib_kept(rule, value, straight, t.starts, t.near, t.coef, volumes, passive, y, density);
+    let (rule, value, project_at) = rule.numbers();
+    let kept = ffi::sokdrib_kept(rule, value, project_at, straight, t.starts, t.near, t.coef, volumes, passive, y, density);
     refusal(kept.refused).map(|()| kept.volume)
 }
 
@@ -130,9 +146,11 @@ pub struct Next<'a> {
 pub fn update(x: &[f64], aim: Aim<'_>, t: Table<'_>, volumes: &[f64], passive: &[bool], next: Next<'_>) -> Result<Updated, Refused> {
     let Aim { dc, dv, m, target, tolerance, rule } = aim;
     let Next { design, gain, work } = next;
-    let (rule, value) = rule.numbers();
+    let (rule, value, project_at) = rule.numbers();
     let (starts, near, coef) = (t.starts, t.near, t.coef);
-    let told = ffi::sokdrib_update(x, dc, dv, passive, m, target, tolerance, rule, value, starts, near, coef, volumes, design, gain, work);
+    let told = ffi::sokdrib_update(
+        x, dc, dv, passive, m, target, tolerance, rule, value, project_at, starts, near, coef, volumes, design, gain, work,
+    );
     let ending = match told.ending {
         0 => Ending::Met(told.first),
         1 => Ending::Cramped(told.first, told.second),

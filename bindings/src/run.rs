@@ -3,8 +3,33 @@
 //! State and lists are the caller's, and each call is to get them as the last one left them. [`State::default`] is the fresh state, with no run open.
 //! A state whose phase is above 2 is no run's: both calls refuse it with 20 and leave it and all lists as before.
 use crate::filter::Work;
+use crate::topo::PROJECT_AT;
 use crate::{Refused, ffi};
-pub use ffi::{RunGoal as Goal, RunRecord as Iteration, RunState as State};
+pub use ffi::{RunRecord as Iteration, RunState as State};
+
+/// What is asked for: the share of the volume to keep, the filter's radius, whether it is sharpened and the density that this turns about, from 0.25 to 0.75,
+/// and the most rounds. Left out, by `..Goal::default()`, nothing is sharpened, and it turns about a half; of the others the default is none that opens.
+#[derive(Clone, Copy, Debug, PartialEq)]
+pub struct Goal {
+    pub fraction: f64,
+    pub radius: f64,
+    pub sharpen: bool,
+    pub project_at: f64,
+    pub max_iterations: usize,
+}
+
+impl Default for Goal {
+    fn default() -> Goal {
+        Goal { fraction: 0.0, radius: 0.0, sharpen: false, project_at: PROJECT_AT, max_iterations: 0 }
+    }
+}
+
+impl From<Goal> for ffi::RunGoal {
+    fn from(goal: Goal) -> ffi::RunGoal {
+        let Goal { fraction, radius, sharpen, project_at, max_iterations } = goal;
+        ffi::RunGoal { fraction, radius, sharpen, project_at, max_iterations }
+    }
+}
 
 /// Why a run stopped.
 #[derive(Clone, Copy, Debug, PartialEq, Eq)]
@@ -79,7 +104,7 @@ pub fn open(state: &mut State, part: Part<'_>, goal: Goal, flag: bool, lists: Li
     let returned = ffi::sokdrib_open(
         history.len(),
         *state,
-        goal,
+        goal.into(),
         flag,
         part.volumes,
         part.centroids,

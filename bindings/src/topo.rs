@@ -1,5 +1,8 @@
-//! The stiffness levels that a solver is asked for.
+//! The stiffness levels that a solver is asked for, and the turning density of a goal that names none.
 use crate::{Refused, ffi, refusal};
+
+/// The density that sharpening turns about where nothing else is said: the Rust's constant.
+pub const PROJECT_AT: f64 = 0.5;
 
 /// The Young's modulus of a stiffness level for a material of modulus `e0`.
 pub fn modulus(level: u16, e0: f64) -> f64 {

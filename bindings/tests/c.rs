@@ -83,22 +83,25 @@ fn told(part: Part<'_>, goal: Goal, weights: &[f64]) -> String {
 #[test]
 fn a_c_program_runs_jobs() {
     let worked = Part { volumes: &[1.0, 1.0], centroids: &[[0.0; 3], [10.0, 0.0, 0.0]], passive: &[true, false], mirrors: &[] };
-    let one = Goal { fraction: 0.75, radius: 1.0, sharpen: false, max_iterations: 1 };
+    let one = Goal { fraction: 0.75, radius: 1.0, max_iterations: 1, ..Goal::default() };
     let eight = Part {
         volumes: &[1.0, 1.0, 1.25, 1.25, 0.75, 0.75, 1.0, 1.0],
         centroids: &[0, 1, 2, 3, 4, 5, 6, 7].map(|e| [f64::from(e / 2) + 0.5, f64::from(e % 2) - 0.5, 0.0]),
         passive: &[true, true, false, false, false, false, false, false],
         mirrors: &[[0.0, 0.0, 0.0, 0.0, 1.0, 0.0]],
     };
-    let sharpened = Goal { fraction: 0.5, radius: 1.5, sharpen: true, max_iterations: 60 };
+    let sharpened = Goal { fraction: 0.5, radius: 1.5, sharpen: true, max_iterations: 60, ..Goal::default() };
     let texts = [
         told(worked, one, &[1.0, 0.0]),
         told(eight, sharpened, &[4.0, 4.0, 3.0, 2.5, 2.0, 2.0, 0.5, 1.0]),
+        told(eight, Goal { project_at: 0.3, ..sharpened }, &[4.0, 4.0, 3.0, 2.5, 2.0, 2.0, 0.5, 1.0]),
         told(worked, Goal { fraction: 0.1, ..one }, &[1.0, 0.0]),
+        told(worked, Goal { fraction: 0.1, project_at: 0.0, ..one }, &[1.0, 0.0]),
     ];
     assert_eq!(texts[0], WORKED);
     assert_eq!(texts[1].matches("round").count(), 60);
-    assert_eq!(texts[2], "refused 7\n");
+    assert!(texts[2].matches("round").count() > 1 && texts[2] != texts[1]);
+    assert_eq!(texts[3..], ["refused 7\n", "refused 28\n"]);
     let ran = program("run").output().expect("it runs");
     assert!(ran.status.success());
     assert_eq!(String::from_utf8(ran.stdout).expect("it is text"), texts.concat());

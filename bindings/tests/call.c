@@ -17,8 +17,9 @@ int main(void) {
     uint32_t starts[3] = {0, 1, 2}, columns[2] = {0, 1};
     double coef[2] = {1.0, 1.0}, x[2] = {0.5, 0.25}, slope[2];
     bool passive[2] = {true, false};
-    if (sokdrib_see(starts, 3, columns, 2, coef, 2, passive, 2, x, 2, false, 1.0, out, 3, slope, 2) != 0) return 8;
+    if (sokdrib_see(starts, 3, columns, 2, coef, 2, passive, 2, x, 2, false, 1.0, 0.5, out, 3, slope, 2) != 0) return 8;
     if (out[0] != 1.0 || out[1] != 0.25 || out[2] != 9.0 || slope[0] != 0.0 || slope[1] != 1.0) return 9;
-    if (sokdrib_see(starts, 3, columns, 2, coef, 2, passive, 2, x, 2, false, 1.0, out, 3, slope, 1) != 14) return 10;
+    if (sokdrib_see(starts, 3, columns, 2, coef, 2, passive, 2, x, 2, false, 1.0, 0.5, out, 3, slope, 1) != 14) return 10;
+    if (sokdrib_project(0.0, 16.0, 0.25).density != 0.0 || sokdrib_project(1.0, 16.0, 0.25).density != 1.0) return 12;
     return sokdrib_is_finite(1.0) && !sokdrib_is_finite(1.0 / 0.0) ? 0 : 7;
 }

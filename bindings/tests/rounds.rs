@@ -1,6 +1,7 @@
 //! Document 01's worked job by the library's parts, and lists that are refused, through the bindings.
 use sokdrib::Refused;
-use sokdrib::oc::{self, Aim, Ending, Next, Rule, Seen};
+use sokdrib::ieee::tanh;
+use sokdrib::oc::{self, Aim, Bend, Ending, Next, Rule, Seen};
 use sokdrib::table::Table;
 
 /// Two elements further apart than the radius: each row has its own element.
@@ -37,9 +38,28 @@ fn two_elements() {
 
 #[test]
 fn ends_of_the_sharpening_stay() {
-    for beta in [1.0, 2.0, 4.0, 8.0, 16.0] {
-        assert_eq!((oc::project(0.0, beta).0, oc::project(1.0, beta).0), (0.0, 1.0));
+    for bend in bends() {
+        assert_eq!([0.0, -0.0, 1.0].map(|v| oc::project(v, bend).0), [0.0, 0.0, 1.0]);
     }
+}
+
+fn bends() -> impl Iterator<Item = Bend> {
+    let turns = [0.25, 0.3, 0.4, 0.5, 0.618, 0.75];
+    turns.into_iter().flat_map(|project_at| [1.0, 2.0, 4.0, 8.0, 16.0].map(|beta| Bend { beta, project_at }))
+}
+
+/// CR 8: "The divisor, in the slopes too, is the dividend's value at 1."
+#[test]
+fn one_divisor() {
+    for Bend { beta, project_at } in bends() {
+        let dividend = |v: f64| tanh(beta * project_at) + tanh(beta * (v - project_at));
+        for v in (0..=100).map(|k| f64::from(k) / 100.0) {
+            let t = tanh(beta * (v - project_at));
+            let by_hand = (dividend(v) / dividend(1.0), beta * (1.0 - t * t) / dividend(1.0));
+            assert_eq!(oc::project(v, Bend { beta, project_at }), by_hand);
+        }
+    }
+    assert_eq!(Bend::at_half(2.0), Bend { beta: 2.0, project_at: 0.5 });
 }
 
 #[test]

@@ -113,7 +113,7 @@ static void run(const Job *job) {
 int main(void) {
     /* Document 01's worked example: two elements far apart, the first held solid. */
     Job worked = {
-        .goal = {.fraction = 0.75, .radius = 1.0, .sharpen = false, .max_iterations = 1}, .elements = 2,
+        .goal = {.fraction = 0.75, .radius = 1.0, .sharpen = false, .project_at = 0.5, .max_iterations = 1}, .elements = 2,
         .volumes = (const double[]){1.0, 1.0},
         .centroids = (const double[][3]){{0.0, 0.0, 0.0}, {10.0, 0.0, 0.0}},
         .passive = (const bool[]){true, false},
@@ -123,7 +123,7 @@ int main(void) {
 
     /* Eight elements, symmetric about y = 0, sharpened. */
     Job sharpened = {
-        .goal = {.fraction = 0.5, .radius = 1.5, .sharpen = true, .max_iterations = 60}, .elements = 8, .planes = 1,
+        .goal = {.fraction = 0.5, .radius = 1.5, .sharpen = true, .project_at = 0.5, .max_iterations = 60}, .elements = 8, .planes = 1,
         .volumes = (const double[]){1.0, 1.0, 1.25, 1.25, 0.75, 0.75, 1.0, 1.0},
         .centroids = (const double[][3]){{0.5, -0.5, 0.0}, {0.5, 0.5, 0.0}, {1.5, -0.5, 0.0}, {1.5, 0.5, 0.0},
                                          {2.5, -0.5, 0.0}, {2.5, 0.5, 0.0}, {3.5, -0.5, 0.0}, {3.5, 0.5, 0.0}},
@@ -133,8 +133,16 @@ int main(void) {
     };
     run(&sharpened);
 
+    /* The same, with the sharpening turned about 0.3. */
+    sharpened.goal.project_at = 0.3;
+    run(&sharpened);
+
     /* Half of it is held, so a share of 0.1 has no room: 7. */
     worked.goal.fraction = 0.1;
+    run(&worked);
+
+    /* A turning density that is left out is 0, which is none: 28. */
+    worked.goal.project_at = 0.0;
     run(&worked);
     return 0;
 }

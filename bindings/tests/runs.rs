@@ -2,9 +2,10 @@
 use sokdrib::Refused;
 use sokdrib::filter::Work;
 use sokdrib::run::{Answer, Goal, Iteration, Lists, Part, Reply, Said, Scratch, State, Stop, answer, open};
+use sokdrib::topo::PROJECT_AT;
 
 const PART: Part<'static> = Part { volumes: &[1.0, 1.0], centroids: &[[0.0; 3], [10.0, 0.0, 0.0]], passive: &[true, false], mirrors: &[] };
-const GOAL: Goal = Goal { fraction: 0.75, radius: 1.0, sharpen: false, max_iterations: 1 };
+const GOAL: Goal = Goal { fraction: 0.75, radius: 1.0, sharpen: false, project_at: PROJECT_AT, max_iterations: 1 };
 
 #[derive(Clone, Debug, Default, PartialEq)]
 struct Held {
@@ -52,6 +53,34 @@ fn two_elements() {
     assert_eq!(numbers, [0x3FF0000000000000, 0x3FE8000000000000, 0x3FC999999999999A, 0x3FF0000000000000, 0x3FF0000000000000]);
     assert_eq!((r.number, r.passes), (1, 200));
     assert_eq!(asks(&mut state, &mut held, gave(&[0.5, 0.0]), 1), Err(Refused(20)));
+}
+
+/// CR 8: 28 for a turning density that is not from 0.25 to 0.75, sharpened or not, after 5 and before 6, with state and lists kept.
+#[test]
+fn turning_densities() {
+    assert_eq!(Goal::default().project_at, 0.5);
+    let outside = [0.25f64.next_down(), 0.75f64.next_up(), 0.0, -0.0, -0.5, 1.0, f64::NAN, f64::INFINITY, f64::NEG_INFINITY];
+    let inside = [0.25, 0.25f64.next_up(), 0.4, 0.5, 0.618, 0.75f64.next_down(), 0.75];
+    let before = (State::default(), Held::default(), Work::of(2));
+    let opened = |goal: Goal| {
+        let (mut state, mut held, mut work) = before.clone();
+        let reply = open(&mut state, PART, goal, false, held.lend(1), &mut work);
+        (reply, (state, held, work))
+    };
+    for sharpen in [false, true] {
+        for project_at in outside {
+            let goal = Goal { sharpen, project_at, ..GOAL };
+            assert_eq!(opened(goal), (Err(Refused(28)), before.clone()));
+            assert_eq!(opened(Goal { fraction: 1.0, ..goal }), (Err(Refused(5)), before.clone()));
+            assert_eq!(opened(Goal { max_iterations: 0, ..goal }), (Err(Refused(28)), before.clone()));
+        }
+        for project_at in inside {
+            let goal = Goal { sharpen, project_at, ..GOAL };
+            let (reply, (state, _, _)) = opened(goal);
+            assert_eq!((reply, state.project_at), (Ok(Reply::Solid), project_at));
+            assert_eq!(opened(Goal { max_iterations: 0, ..goal }).0, Err(Refused(6)));
+        }
+    }
 }
 
 #[test]

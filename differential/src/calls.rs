@@ -5,15 +5,16 @@ use std::hash::{DefaultHasher, Hash, Hasher};
 use crate::compare::{Run, Value};
 use crate::inputs::Gen;
 use crate::plain::{Answer, Effect, Opening, Part as Asked, Plain, Reply, Room, Said};
-use crate::runs::{Job, Trace, opens, original_trace, small};
+use crate::runs::{Job, Trace, opens, original_trace, small, turned, turned_long};
 use sokdrib::Refused;
 use sokdrib::filter::Work;
 use sokdrib::run::{self, Goal, Iteration, Lists, Part, Scratch, State};
-use tenon::topo::{Filter, Stop, level_of};
+use tenon::topo::{Filter, PROJECT_AT, Stop, level_of};
 
 pub fn all(run: &mut Run) {
     let long = if run.long { vec![large(65_535), large(30_000)] } else { Vec::new() };
     run.jobs("run", 1000, long, small, |job| original_trace(&job), |job| ours_trace(&job));
+    run.jobs("turned run", 2000, turned_long(), turned, |job| original_trace(&job), |job| ours_trace(&job));
     run.jobs("calls", 250, many(), Script::random, |s| s.theirs(), |s| s.ours());
 }
 
@@ -169,7 +170,7 @@ fn part(o: &Opening) -> Part<'_> {
 }
 
 fn goal(o: &Opening) -> Goal {
-    Goal { fraction: o.fraction, radius: o.radius, sharpen: o.sharpen, max_iterations: o.rounds }
+    Goal { fraction: o.fraction, radius: o.radius, sharpen: o.sharpen, project_at: o.project_at, max_iterations: o.rounds }
 }
 
 fn stop_of(stop: run::Stop) -> Stop {
@@ -284,7 +285,7 @@ fn about(g: &mut Gen, limits: &[f64]) -> f64 {
 fn change(g: &mut Gen, o: &mut Opening) {
     let n = o.volumes.len();
     let place = g.below(n.max(1));
-    match g.below(14) {
+    match g.below(15) {
         0 => drop(o.volumes.pop()),
         1 => o.centroids.push([0.0; 3]),
         2 => o.passive.push(false),
@@ -292,6 +293,7 @@ fn change(g: &mut Gen, o: &mut Opening) {
         4 if n > 0 => o.volumes[place] = about(g, &[1e20]),
         5 => o.fraction = about(g, &[1.0, 0.001]),
         6 => o.rounds = 0,
+        13 => o.project_at = about(g, &[0.25, 0.75, 0.5]),
         7 => o.passive.fill(true),
         // Just the room that equality refuses.
         8 if n > 0 => {
@@ -318,6 +320,9 @@ impl Script {
         let n = if g.below(64) == 0 { 60 + g.below(100) } else { 1 + g.below(12) };
         let mut job = Job::random(g, n);
         job.opening.rounds = job.opening.rounds.min(30);
+        if g.below(3) == 0 {
+            job.opening.project_at = g.turning();
+        }
         if g.below(3) == 0 {
             (0..1 + g.below(3)).for_each(|_| change(g, &mut job.opening));
         }
@@ -448,8 +453,11 @@ fn many() -> Vec<Script> {
             passive: vec![false; n],
             fraction: 0.5,
             radius: 0.5,
+            sharpen: false,
+            project_at: PROJECT_AT,
             rounds: 1,
-            ..Opening::default()
+            planes: Vec::new(),
+            flag: false,
         };
         (job.elapsed, job.allowed, job.flag) = (vec![0], u64::MAX, None);
         all.push(Script::of(job, &mut g));
@@ -603,7 +611,7 @@ fn broken(s: &State, how: usize) -> State {
 }
 
 fn same(a: &State, b: &State) -> bool {
-    let floats = |s: &State| [s.fraction, s.solid_compliance, s.compliance].map(f64::to_bits);
+    let floats = |s: &State| [s.fraction, s.project_at, s.solid_compliance, s.compliance].map(f64::to_bits);
     let wholes = |s: &State| [s.elements, s.entries, s.max_iterations, s.rounds, s.stage, s.at_stage, s.steady];
     a.phase == b.phase && a.sharpen == b.sharpen && floats(a) == floats(b) && wholes(a) == wholes(b)
 }
@@ -709,7 +717,7 @@ mod tests {
                 });
             }
         }
-        let openings = [1, 2, 4, 5, 6, 7, 8, 9, 10, 11, 12, 14, 15].map(|k| format!("opening {k}"));
+        let openings = [1, 2, 4, 5, 6, 7, 8, 9, 10, 11, 12, 14, 15, 28].map(|k| format!("opening {k}"));
         let asides = (0..14).map(|k| format!("short {k}")).chain((0..BROKEN).map(|k| format!("broken {k}")));
         for what in openings.into_iter().chain(asides).chain(["opened again".into()]) {
             assert!(seen.get(&what).is_some_and(|n| *n >= 10), "{what}: {seen:?}");

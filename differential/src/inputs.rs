@@ -67,6 +67,15 @@ impl Gen {
         std::array::from_fn(|_| self.float())
     }
 
+    /// A turning density from 0.25 to 0.75, both ends among them.
+    pub fn turning(&mut self) -> f64 {
+        match self.below(8) {
+            0 => self.pick(&[0.25, 0.75]),
+            1 => self.pick(&[0.25f64.next_up(), 0.5f64.next_down(), 0.5f64.next_up(), 0.75f64.next_down()]),
+            _ => 0.25 + 0.5 * self.unit(),
+        }
+    }
+
     /// A point or a vector: mostly as a mesh would have it, on a small grid that makes ties likely, and now and then anything.
     pub fn point(&mut self) -> [f64; 3] {
         match self.below(8) {

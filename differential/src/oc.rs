@@ -7,13 +7,15 @@ use crate::compare::Run;
 use crate::fields;
 use crate::inputs::{Gen, beside, edges};
 use crate::lists::{Lists, elements, laid, lent, list, number, refused, table, unused};
-use sokdrib::oc::{self, Aim, Ending, Next, Rule, Seen};
+use crate::plain;
+use sokdrib::oc::{self, Aim, Bend, Ending, Next, Rule, Seen};
 use sokdrib::table::Table;
 use tenon::stand_ins::ended;
 use tenon::topo::oc as original;
 use tenon::topo::{
-    Design, Filter, Goal, LEVEL_OFF, LEVEL_OFF_RUN, MOVE, SETTLED, STAGE_ITERATIONS, STAGES, Stiffness, Stop, level_of, modulus,
+    Design, Filter, Goal, LEVEL_OFF, LEVEL_OFF_RUN, MOVE, PROJECT_AT, SETTLED, STAGE_ITERATIONS, STAGES, Stiffness, Stop, level_of, modulus,
 };
+use tenon::turned;
 
 pub fn all(run: &mut Run) {
     numbers(run);
@@ -25,6 +27,11 @@ pub fn all(run: &mut Run) {
 /// 01's five steepnesses; now and then another.
 fn steepness(g: &mut Gen) -> f64 {
     if g.below(16) == 0 { g.float() } else { g.pick(&STAGES) }
+}
+
+/// A turning density of CR 8's; now and then any float, which the parts of a round take too.
+fn turning(g: &mut Gen) -> f64 {
+    if g.below(16) == 0 { g.float() } else { g.turning() }
 }
 
 /// A value of a design: mostly as an update leaves it.
@@ -47,13 +54,25 @@ fn volume(g: &mut Gen) -> f64 {
 }
 
 fn numbers(run: &mut Run) {
-    let sharp = edges().into_iter().chain((0..=1000).flat_map(|k| beside(f64::from(k) / 1000.0)));
-    let sharp = sharp.flat_map(|v| STAGES.map(|beta| [v, beta]));
+    let values: Vec<f64> = edges().into_iter().chain((0..=1000).flat_map(|k| beside(f64::from(k) / 1000.0))).collect();
+    let sharp: Vec<[f64; 2]> = values.into_iter().flat_map(|v| STAGES.map(|beta| [v, beta])).collect();
     let random = |g: &mut Gen| match g.below(4) {
         0 => [g.float(), g.float()],
         _ => [g.unit(), steepness(g)],
     };
-    run.leaf("project", sharp, random, |[v, beta]| original::project(v, beta), |[v, beta]| oc::project(v, beta));
+    let ours = |[v, beta]: [f64; 2]| oc::project(v, Bend::at_half(beta));
+    run.leaf("project", sharp.clone(), random, |[v, beta]| original::project(v, beta), ours);
+    // The original where it is compiled for the turning density, elsewhere the formula as CR 8 has it.
+    let turned = turned::ALL.iter().flat_map(|t| sharp.iter().map(|[v, beta]| [*v, *beta, t.project_at]));
+    let random = |g: &mut Gen| match g.below(4) {
+        0 => g.floats(),
+        _ => [g.unit(), steepness(g), turning(g)],
+    };
+    let theirs = |[v, beta, project_at]: [f64; 3]| match turned::at(project_at) {
+        Some(t) => (t.project)(v, beta),
+        None => plain::project(v, Bend { beta, project_at }),
+    };
+    run.leaf("turned project", turned, random, theirs, |[v, beta, project_at]| oc::project(v, Bend { beta, project_at }));
     let room = |g: &mut Gen| {
         let total = if g.below(4) == 0 { g.float() } else { g.unit() * 100.0 };
         let solid = if g.below(4) == 0 { g.float() } else { g.unit() * total };
@@ -85,10 +104,11 @@ struct Part {
     energies: Vec<f64>,
     number: f64,
     sharpen: bool,
+    project_at: f64,
     a: Vec<f64>,
     b: Vec<f64>,
 }
-fields!(Part: table, volumes, passive, x, slope, energies, number, sharpen, a, b);
+fields!(Part: table, volumes, passive, x, slope, energies, number, sharpen, project_at, a, b);
 
 impl Part {
     fn random(g: &mut Gen) -> Part {
@@ -104,9 +124,15 @@ impl Part {
             energies: list(g, n, |g| if g.below(8) == 0 { g.float() } else { g.unit() }),
             number: if sharpen { steepness(g) } else { g.float() },
             sharpen,
+            project_at: PROJECT_AT,
             a: lent(g, n),
             b: lent(g, n),
         }
+    }
+
+    /// Sharpened, about another density than a half.
+    fn turned(g: &mut Gen) -> Part {
+        Part { number: steepness(g), sharpen: true, project_at: turning(g), ..Part::random(g) }
     }
 
     /// The table for as many rows as there are elements.
@@ -116,12 +142,12 @@ impl Part {
         filter
     }
 
-    fn beta(&self) -> Option<f64> {
-        self.sharpen.then_some(self.number)
+    fn bend(&self) -> Option<Bend> {
+        self.sharpen.then_some(Bend { beta: self.number, project_at: self.project_at })
     }
 
     fn rule(&self) -> Rule {
-        if self.sharpen { Rule::Sharpened(self.number) } else { Rule::Straight(self.number) }
+        self.bend().map_or(Rule::Straight(self.number), Rule::Sharpened)
     }
 }
 
@@ -130,9 +156,11 @@ type Left = (u32, Vec<f64>, Vec<f64>);
 fn parts(run: &mut Run) {
     run.jobs("start", 30, [], Part::random, start_theirs, start_ours);
     run.jobs("see", 30, [], Part::random, see_theirs, see_ours);
+    run.jobs("turned see", 60, [], Part::turned, see_theirs, see_ours);
     run.jobs("work_slope", 30, [], Part::random, work_slope_theirs, work_slope_ours);
     run.jobs("volume_slope", 30, [], Part::random, volume_slope_theirs, volume_slope_ours);
     run.jobs("kept", 30, [], Part::random, kept_theirs, kept_ours);
+    run.jobs("turned kept", 60, [], Part::turned, kept_theirs, kept_ours);
 }
 
 /// The first lines of `optimize`.
@@ -163,12 +191,12 @@ fn see_theirs(p: Part) -> Left {
     if refused != 0 {
         return (refused, p.a, p.b);
     }
-    let seen = original::see(&p.theirs(n), &p.passive, &p.x, p.beta());
+    let seen = plain::see(&p.theirs(n), &p.passive, &p.x, p.bend());
     (0, laid(seen.density, p.a), laid(seen.slope, p.b))
 }
 
 fn see_ours(mut p: Part) -> Left {
-    let told = oc::see(p.table.ours(), &p.passive, &p.x, p.beta(), Seen { density: &mut p.a, slope: &mut p.b });
+    let told = oc::see(p.table.ours(), &p.passive, &p.x, p.bend(), Seen { density: &mut p.a, slope: &mut p.b });
     (number(&told), p.a, p.b)
 }
 
@@ -205,12 +233,13 @@ fn volume_slope_ours(mut p: Part) -> Left {
     (number(&told), unused(number(&told), p.slope.len(), p.a), p.b)
 }
 
-/// The volume that a design keeps by the original: `kept`, or the closure that `optimize` hands to `update`.
+/// The volume that a design keeps by the original: `kept`, or the closure that `optimize` hands to `update`; elsewhere than about a half `kept` of the plain
+/// run.
 fn kept_by(rule: Rule, straight: &[f64], filter: &Filter, volumes: &[f64], passive: &[bool]) -> impl FnMut(&[f64]) -> f64 {
     let design = Design { volumes: volumes.to_vec(), centroids: Vec::new(), passive: passive.to_vec() };
     move |y| match rule {
         Rule::Straight(solid) => solid + original::dot(straight, y),
-        Rule::Sharpened(beta) => original::kept(filter, &design, y, Some(beta)),
+        Rule::Sharpened(bend) => plain::kept(filter, &design, y, bend),
     }
 }
 
@@ -242,20 +271,31 @@ struct Job {
     tolerance: f64,
     sharpen: bool,
     number: f64,
+    project_at: f64,
     table: Lists,
     volumes: Vec<f64>,
     design: Vec<f64>,
     gain: Vec<f64>,
     work: Vec<f64>,
 }
-fields!(Job: x, dc, dv, passive, m, target, tolerance, sharpen, number, table, volumes, design, gain, work);
+fields!(Job: x, dc, dv, passive, m, target, tolerance, sharpen, number, project_at, table, volumes, design, gain, work);
 
 impl Job {
     fn rule(&self) -> Rule {
-        if self.sharpen { Rule::Sharpened(self.number) } else { Rule::Straight(self.number) }
+        let bend = Bend { beta: self.number, project_at: self.project_at };
+        if self.sharpen { Rule::Sharpened(bend) } else { Rule::Straight(self.number) }
     }
 
     fn random(g: &mut Gen) -> Job {
+        Job::about(g, PROJECT_AT)
+    }
+
+    fn turned(g: &mut Gen) -> Job {
+        let project_at = turning(g);
+        Job::about(g, project_at)
+    }
+
+    fn about(g: &mut Gen, project_at: f64) -> Job {
         let n = elements(g).max(1);
         let sharpen = g.below(2) == 0;
         let table = table(g, n);
@@ -297,6 +337,7 @@ impl Job {
             m,
             sharpen,
             number,
+            project_at,
             table,
             volumes,
         };
@@ -385,6 +426,7 @@ fn update_ours(mut j: Job) -> ([f64; 4], Left, Vec<f64>) {
 
 fn updates(run: &mut Run) {
     run.jobs("update", 100, [], Job::random, update_theirs, update_ours);
+    run.jobs("turned update", 200, [], Job::turned, update_theirs, update_ours);
 }
 
 /// A whole run: a part whose solver gives each element the energy weight / (2·modulus(level, 1)).
@@ -396,11 +438,12 @@ struct Whole {
     fraction: f64,
     radius: f64,
     sharpen: bool,
+    project_at: f64,
     rounds: usize,
     table: Lists,
     middles: Vec<[f64; 3]>,
 }
-fields!(Whole: volumes, passive, weights, fraction, radius, sharpen, rounds, table, middles);
+fields!(Whole: volumes, passive, weights, fraction, radius, sharpen, project_at, rounds, table, middles);
 
 fn energies(weights: &[f64], levels: impl Iterator<Item = u16>) -> Vec<f64> {
     weights.iter().zip(levels).map(|(w, level)| w / (2.0 * modulus(level, 1.0))).collect()
@@ -433,11 +476,18 @@ impl Whole {
             fraction: 0.05 + 0.9 * g.unit(),
             radius,
             sharpen: g.below(2) == 0,
+            project_at: PROJECT_AT,
             rounds: 1 + g.below(most),
             table: Lists::of(&filter),
             middles,
             volumes,
         }
+    }
+
+    /// Sharpened, about a density that the original is compiled for.
+    fn turned(g: &mut Gen) -> Whole {
+        let all: Vec<f64> = turned::ALL.iter().map(|t| t.project_at).collect();
+        Whole { sharpen: true, project_at: g.pick(&all), ..Whole::random(g) }
     }
 }
 
@@ -460,10 +510,11 @@ fn whole_theirs(w: Whole) -> Told {
     };
     let mut records = Vec::new();
     let never = Arc::new(AtomicBool::new(false));
-    let done = tenon::topo::optimize(&design, &goal, &mut Weights(&w.weights), &never, &mut |i| {
+    let told = &mut |i: &tenon::topo::Iteration| {
         records.push([i.number as f64, i.compliance, i.fraction, i.change, i.sharpness, i.grey, ended().passes as f64]);
-    });
-    match done {
+    };
+    let turned = turned::at(w.project_at).expect("the original is compiled for this turning density");
+    match (turned.optimize)(&design, &goal, &mut Weights(&w.weights), &never, told) {
         Ok(done) => (records, done.density, done.stop as usize),
         Err(_) => (Vec::new(), Vec::new(), 0),
     }
@@ -489,16 +540,16 @@ fn whole_ours(w: Whole) -> Told {
     let mut records: Vec<[f64; 7]> = Vec::new();
     let (mut stage, mut at_stage, mut steady, mut before) = (0, 0, 0, None::<f64>);
     loop {
-        let beta = w.sharpen.then(|| STAGES[stage]);
+        let bend = w.sharpen.then(|| Bend { beta: STAGES[stage], project_at: w.project_at });
         let seen = Seen { density: &mut density, slope: &mut slope };
-        let mut sure = oc::see(t, &w.passive, &x, beta, seen).is_ok();
+        let mut sure = oc::see(t, &w.passive, &x, bend, seen).is_ok();
         let u = energies(&w.weights, density.iter().map(|v| sokdrib::topo::level_of(*v)));
         let compliance = oc::compliance(&u);
         sure &= oc::work_slope(t, &w.passive, &density, &slope, &u, &mut own, &mut dc).is_ok();
         sure &= oc::volume_slope(t, &slope, &free, &mut own, &mut dv).is_ok();
-        let (dv, m, rule) = match beta {
+        let (dv, m, rule) = match bend {
             None => (&straight, MOVE, Rule::Straight(start.solid)),
-            Some(b) => (&dv, MOVE / sokdrib::ieee::root::sqrt(b), Rule::Sharpened(b)),
+            Some(bend) => (&dv, MOVE / sokdrib::ieee::root::sqrt(bend.beta), Rule::Sharpened(bend)),
         };
         let aim = Aim { dc: &dc, dv, m, target: start.target, tolerance: start.tolerance, rule };
         let next = Next { design: &mut design, gain: &mut gain, work: &mut work };
@@ -508,7 +559,8 @@ fn whole_ours(w: Whole) -> Told {
         }
         let change = oc::change(&design, &x);
         let (share, grey) = (oc::fraction(&w.volumes, &density, start.total), oc::grey(&density, &free, free_total));
-        records.push([records.len() as f64 + 1.0, compliance, share, change, beta.unwrap_or(1.0), grey, updated.passes as f64]);
+        let steepness = bend.map_or(1.0, |bend| bend.beta);
+        records.push([records.len() as f64 + 1.0, compliance, share, change, steepness, grey, updated.passes as f64]);
         std::mem::swap(&mut x, &mut design);
         let sharpest = !w.sharpen || stage + 1 >= STAGES.len();
         if sharpest {
@@ -538,6 +590,7 @@ fn whole_ours(w: Whole) -> Told {
 
 fn rounds(run: &mut Run) {
     run.jobs("rounds", 2000, [], Whole::random, whole_theirs, whole_ours);
+    run.jobs("turned rounds", 4000, [], Whole::turned, whole_theirs, whole_ours);
 }
 
 /// That the random inputs reach what they are meant for.

@@ -1,17 +1,19 @@
-//! Document 01's plain run, and what each call leaves in the lists that it is lent: written from 01's text, over the original's formulas.
+//! Document 01's plain run, with 02's turning densities, and what each call leaves in the lists that it is lent: written from their text,
+//! over the original's formulas; elsewhere than about a half over the projection as CR 8 has it, which is written here.
 //!
 //! It is fed the calls' arguments alone: of an opening's lists that are written, and of an answer's lists other than the energies, only the
 //! lengths. The steady rounds and the rounds at a steepness are read off its own records.
-use tenon::stand_ins::ended;
+use sokdrib::oc::Bend;
+use tenon::stand_ins::{ended, tanh};
 use tenon::topo::oc::{self as original, Seen};
-use tenon::topo::{Design, Filter, Mirror, Stop, level_of};
+use tenon::topo::{Design, Filter, Mirror, PROJECT_AT, Stop, level_of};
 use tenon::{Vec3, study};
 
 /// Places that the list of bits needs, for a filter's build.
 pub const WORDS: usize = 1040;
 
 /// An opening's arguments.
-#[derive(Clone, Default)]
+#[derive(Clone)]
 pub struct Opening {
     pub volumes: Vec<f64>,
     pub centroids: Vec<[f64; 3]>,
@@ -19,6 +21,7 @@ pub struct Opening {
     pub fraction: f64,
     pub radius: f64,
     pub sharpen: bool,
+    pub project_at: f64,
     pub rounds: usize,
     pub planes: Vec<[f64; 6]>,
     pub flag: bool,
@@ -131,6 +134,35 @@ pub enum Part {
 /// 01's steepnesses.
 const STEEPNESSES: [f64; 5] = [1.0, 2.0, 4.0, 8.0, 16.0];
 
+/// The projection and its slope: CR 8, "a turning density from 0.25 to 0.75 which takes the half's place throughout the projection. The divisor, in the slopes
+/// too, is the dividend's value at 1."
+pub fn project(v: f64, bend: Bend) -> (f64, f64) {
+    let Bend { beta, project_at } = bend;
+    let turned = |v: f64| tanh(beta * (v - project_at));
+    let dividend = |v: f64| tanh(beta * project_at) + turned(v);
+    (dividend(v) / dividend(1.0), beta * (1.0 - turned(v) * turned(v)) / dividend(1.0))
+}
+
+/// The densities that a solve is given, and their slopes: by the original, or about another density than a half by [`project`].
+pub fn see(filter: &Filter, passive: &[bool], x: &[f64], bend: Option<Bend>) -> Seen {
+    let bend = match bend {
+        Some(bend) if bend.project_at != PROJECT_AT => bend,
+        _ => return original::see(filter, passive, x, bend.map(|bend| bend.beta)),
+    };
+    let each = |(v, held): (f64, &bool)| if *held { (1.0, 0.0) } else { project(v.clamp(0.0, 1.0), bend) };
+    let (density, slope) = filter.apply(x).into_iter().zip(passive).map(each).unzip();
+    Seen { density, slope }
+}
+
+/// The volume that a design keeps of such densities.
+pub fn kept(filter: &Filter, design: &Design, y: &[f64], bend: Bend) -> f64 {
+    if bend.project_at == PROJECT_AT {
+        return original::kept(filter, design, y, Some(bend.beta));
+    }
+    let density = see(filter, &design.passive, y, Some(bend)).density;
+    design.volumes.iter().zip(density).fold(0.0, |sum, (v, x)| sum + v * x)
+}
+
 /// The plain run.
 #[derive(Clone)]
 pub struct Plain {
@@ -186,7 +218,7 @@ pub fn shape_refused(radius: f64, centroids: &[[f64; 3]], planes: &[[f64; 6]]) -
     0
 }
 
-/// 1 to 12 in order, then the first 14; 0 where there is none.
+/// 1 to 12 in order, 28 after 5, then the first 14; 0 where there is none.
 fn refused_before_rows(o: &Opening, room: &Room) -> u32 {
     let n = o.volumes.len();
     if o.centroids.len() != n || o.passive.len() != n {
@@ -203,6 +235,9 @@ fn refused_before_rows(o: &Opening, room: &Room) -> u32 {
     }
     if !(o.fraction > 0.0 && o.fraction < 1.0) {
         return 5;
+    }
+    if !(o.project_at >= 0.25 && o.project_at <= 0.75) {
+        return 28;
     }
     if o.rounds == 0 {
         return 6;
@@ -283,8 +318,12 @@ impl Plain {
         !self.given.sharpen || STEEPNESSES[self.stage] == 16.0
     }
 
+    fn bend(&self) -> Option<Bend> {
+        self.beta().map(|beta| Bend { beta, project_at: self.given.project_at })
+    }
+
     fn see(&self) -> Seen {
-        original::see(&self.filter, &self.given.passive, &self.design, self.beta())
+        see(&self.filter, &self.given.passive, &self.design, self.bend())
     }
 
     fn ends(&mut self, reply: Reply, effect: Effect) -> (Reply, Effect) {
@@ -350,16 +389,16 @@ impl Plain {
         let dc = original::work_slope(&self.filter, &o.passive, &seen, &levels, energies);
         let (target, tolerance) = (o.fraction * total, 1e-10 * total);
         let parts = Design { volumes: o.volumes.clone(), centroids: Vec::new(), passive: o.passive.clone() };
-        let next = match self.beta() {
+        let next = match self.bend() {
             None => {
                 let straight = self.filter.back(&free);
                 let mut kept = |y: &[f64]| held + original::dot(&straight, y);
                 original::update(&self.design, &dc, &straight, &o.passive, 0.2, target, tolerance, &mut kept)
             }
-            Some(beta) => {
+            Some(bend) => {
                 let dv = original::volume_slope(&self.filter, &seen, &free);
-                let mut kept = |y: &[f64]| original::kept(&self.filter, &parts, y, Some(beta));
-                original::update(&self.design, &dc, &dv, &o.passive, 0.2 / beta.sqrt(), target, tolerance, &mut kept)
+                let mut kept = |y: &[f64]| kept(&self.filter, &parts, y, bend);
+                original::update(&self.design, &dc, &dv, &o.passive, 0.2 / bend.beta.sqrt(), target, tolerance, &mut kept)
             }
         };
         let change = next.iter().zip(&self.design).fold(0.0, |most: f64, (a, b)| most.max((a - b).abs()));
@@ -414,5 +453,49 @@ impl Plain {
             counts && (this.compliance - before.compliance).abs() < 0.001 * this.compliance
         };
         self.records.windows(2).rev().take_while(level).count()
+    }
+}
+
+#[cfg(test)]
+mod tests {
+    use super::*;
+    use crate::compare::Value;
+    use crate::inputs::{Gen, edges};
+    use crate::lists::{elements, list, table};
+    use tenon::turned;
+
+    /// What is written here is the original about each density that it is compiled for, a half among them.
+    #[test]
+    fn the_projection_is_the_originals() {
+        let mut g = Gen::of(1, "projection");
+        for t in turned::ALL {
+            let bend = |beta| Bend { beta, project_at: t.project_at };
+            for v in edges().into_iter().chain((0..10_000).map(|_| g.unit())) {
+                for beta in STEEPNESSES {
+                    assert!(project(v, bend(beta)).same(&(t.project)(v, beta)), "{v} at {beta} about {}", t.project_at);
+                }
+            }
+            for beta in STEEPNESSES {
+                let n = elements(&mut g).max(1);
+                let mut filter = table(&mut g, n).theirs();
+                filter.start.resize(n + 1, 0);
+                let design =
+                    Design { volumes: list(&mut g, n, Gen::unit), centroids: Vec::new(), passive: list(&mut g, n, |g| g.below(4) == 0) };
+                let y = list(&mut g, n, Gen::unit);
+                assert!(kept(&filter, &design, &y, bend(beta)).same(&(t.kept)(&filter, &design, &y, Some(beta))));
+            }
+        }
+    }
+
+    /// CR 8: "0 and 1 must still project to themselves exactly."
+    #[test]
+    fn ends_stay() {
+        let mut g = Gen::of(1, "ends");
+        for project_at in (0..100_000).map(|_| g.turning()) {
+            for beta in STEEPNESSES {
+                let at = |v| project(v, Bend { beta, project_at }).0;
+                assert_eq!([0.0, -0.0, 1.0].map(at), [0.0, 0.0, 1.0], "at {beta} about {project_at}");
+            }
+        }
     }
 }

@@ -1,4 +1,4 @@
-//! Whole runs, question by question: the original's `optimize` beside the plain run.
+//! Whole runs, question by question: the original's `optimize` beside the plain run; about another density than a half its loop with another constant.
 use std::sync::Arc;
 use std::sync::atomic::{AtomicBool, Ordering};
 use std::time::Duration;
@@ -9,10 +9,12 @@ use crate::inputs::Gen;
 use crate::plain::{Answer, Opening, Plain, Record, Reply, Room, Said, mirrors};
 use tenon::stand_ins::{ended, set_clock};
 use tenon::tools::{Cancel, STOPPED};
-use tenon::topo::{Design, Goal, SETTLED, Stiffness, Stop, level_of, modulus, optimize};
+use tenon::topo::{Design, Goal, PROJECT_AT, SETTLED, Stiffness, Stop, level_of, modulus};
+use tenon::turned::{self, Turned};
 
 pub fn all(run: &mut Run) {
     run.jobs("plain run", 1000, [], small, |job| original_trace(&job), |job| plain_trace(&job));
+    run.jobs("turned plain run", 2000, turned_long(), turned, |job| original_trace(&job), |job| plain_trace(&job));
 }
 
 /// A job that opens, mostly of few elements; now and then one that is about to settle or to level off.
@@ -28,6 +30,33 @@ pub fn small(g: &mut Gen) -> Job {
             return job;
         }
     }
+}
+
+/// The same about another density than a half, one that the original is compiled for.
+pub fn turned(g: &mut Gen) -> Job {
+    let mut job = small(g);
+    let elsewhere: Vec<f64> = turned_at().map(|t| t.project_at).collect();
+    job.opening.project_at = g.pick(&elsewhere);
+    job
+}
+
+fn turned_at() -> impl Iterator<Item = &'static Turned> {
+    turned::ALL.iter().filter(|t| t.project_at != PROJECT_AT)
+}
+
+/// Of each such density a run through all steepnesses, which nothing ends but its changes, its work and its limit.
+pub fn turned_long() -> impl Iterator<Item = Job> {
+    let mut g = Gen::of(1, "turned");
+    turned_at().map(move |t| {
+        loop {
+            let mut job = Job::random(&mut g, 40);
+            (job.event, job.flag, job.allowed, job.opening.flag) = ((0, Event::Works), None, u64::MAX, false);
+            (job.opening.sharpen, job.opening.project_at, job.opening.rounds) = (true, t.project_at, 120);
+            if opens(&job) && original_trace(&job).records.last().is_some_and(|r| r.sharpness == 16.0) {
+                return job;
+            }
+        }
+    })
 }
 
 /// What the solver does when it is asked. The place is taken modulo the elements.
@@ -68,7 +97,7 @@ impl crate::compare::Value for Job {
     fn bits(&self) -> Vec<u64> {
         let o = &self.opening;
         let mut all = vec![o.volumes.len() as u64, o.rounds as u64, u64::from(o.sharpen), o.planes.len() as u64, u64::from(o.flag)];
-        all.extend([o.fraction, o.radius, self.noise].map(f64::to_bits));
+        all.extend([o.fraction, o.radius, o.project_at, self.noise].map(f64::to_bits));
         all.extend([self.event.0 as u64, self.flag.map_or(u64::MAX, |q| q as u64), self.allowed, self.elapsed.len() as u64]);
         let numbers = o.volumes.iter().chain(o.centroids.iter().flatten()).chain(o.planes.iter().flatten()).chain(&self.weights);
         all.extend(numbers.map(|v| v.to_bits()));
@@ -121,6 +150,7 @@ impl Job {
                 fraction: 0.05 + 0.9 * g.unit(),
                 radius: g.pick(&[0.001, 0.3, 0.6, 1.0, 1.0]) * near.max(0.001),
                 sharpen: g.below(2) == 0,
+                project_at: PROJECT_AT,
                 flag: g.below(32) == 0,
                 centroids,
                 rounds,
@@ -271,6 +301,7 @@ pub fn original_trace(job: &Job) -> Trace {
     let mut trace = Trace::default();
     let records = &mut trace.records;
     set_clock(Duration::ZERO);
+    let optimize = turned::at(o.project_at).expect("the original is compiled for this turning density").optimize;
     let done = optimize(&design, &goal, &mut solver, &flag, &mut |i| {
         records.push(Record {
             number: i.number,
@@ -347,6 +378,30 @@ mod tests {
             assert!(seen.get(&end).is_some_and(|n| *n >= 10), "{end}: {seen:?}");
         }
         assert!(steepest >= 10, "{steepest} at 16");
+    }
+
+    /// About each density that the original is compiled for, too: at every kind of end, and through all steepnesses. Unsharpened it tells nothing, and most
+    /// sharpened runs are others than about a half.
+    #[test]
+    fn the_plain_run_turns_as_the_original_does() {
+        let mut g = Gen::of(1, "turning");
+        let (mut seen, mut other): (BTreeMap<usize, usize>, usize) = (BTreeMap::new(), 0);
+        let long: Vec<Job> = turned_long().collect();
+        assert_eq!(long.len(), 5);
+        for (k, job) in long.into_iter().chain((0..1000).map(|_| turned(&mut g))).enumerate() {
+            let (a, b) = (original_trace(&job), plain_trace(&job));
+            assert!(a.same(&b), "job {k}: ended {} and {}, {} and {} records", a.end, b.end, a.records.len(), b.records.len());
+            *seen.entry(a.end).or_default() += 1;
+            let sharpened = job.opening.sharpen;
+            let half = Job { opening: Opening { project_at: PROJECT_AT, ..job.opening.clone() }, ..job };
+            let moved = !original_trace(&half).same(&a);
+            assert!(sharpened || !moved, "job {k}, which is not sharpened");
+            other += usize::from(moved);
+        }
+        for end in [15, 16, 17, 18, 19, 100, 101, 102, 103, 104] {
+            assert!(seen.get(&end).is_some_and(|n| *n >= 3), "{end}: {seen:?}");
+        }
+        assert!(other >= 250, "{other} others");
     }
 
     /// That jobs which are about to settle change by just 0.01, and those about to level off differ by just 0.001 times the work.

@@ -209,6 +209,8 @@ fn lines(strip: &[u8]) -> Result<String, u32> {
         fraction: job.fraction,
         radius: job.radius,
         sharpen: job.sharpen,
+        // CR 8: "A strip job turns at 0.5."
+        project_at: 0.5,
         rounds: job.rounds as usize,
         planes: job.planes,
         flag: false,
