@@ -9,6 +9,8 @@ The text has a line for each thing; what follows a # is a comment:
     share F                             the share of the volume to keep
     radius F                            the filter's radius, mm
     sharpen yes|no
+    turning F                           the density that sharpening turns about; 0.5 where there is no such line. A strip has no place for
+                                        it, so that another one is not packed
     rounds N                            the most rounds
     plane X Y Z  NX NY NZ               a plane of symmetry, a point and a normal; up to three
     element VOLUME X Y Z WEIGHT [held]  one for each element, in order
@@ -19,7 +21,8 @@ import math
 import struct
 import sys
 
-HEAD = ("share", "radius", "sharpen", "rounds")
+HEAD = ("share", "radius", "sharpen", "turning", "rounds")
+HALF = 0x3FE0000000000000
 
 
 def fail(why):
@@ -58,7 +61,7 @@ def parse(text):
         kind, rest = words[0], words[1:]
         try:
             if kind in HEAD and kind not in job and len(rest) == 1:
-                job[kind] = {"share": bits, "radius": bits, "sharpen": ("no", "yes").index, "rounds": int}[kind](rest[0])
+                job[kind] = {"share": bits, "radius": bits, "sharpen": ("no", "yes").index, "turning": bits, "rounds": int}[kind](rest[0])
             elif kind == "plane" and len(rest) == 6:
                 job["planes"].append([bits(w) for w in rest])
             elif kind == "element" and (len(rest) == 5 or rest[5:] == ["held"]):
@@ -67,6 +70,7 @@ def parse(text):
                 fail(f"line {at} is none that is known: {line}")
         except ValueError:
             fail(f"line {at}: {line}")
+    job.setdefault("turning", HALF)
     for kind in HEAD:
         if kind not in job:
             fail(f"no line `{kind}`")
@@ -75,6 +79,7 @@ def parse(text):
 
 def told(job):
     out = [f"share {written(job['share'])}", f"radius {written(job['radius'])}", f"sharpen {('no', 'yes')[job['sharpen']]}", f"rounds {job['rounds']}"]
+    out += [f"turning {written(job['turning'])}"] if job["turning"] != HALF else []
     out += ["plane " + " ".join(map(written, plane)) for plane in job["planes"]]
     out += ["element " + " ".join(map(written, numbers)) + (" held" if held else "") for numbers, held in job["elements"]]
     return "\n".join(out) + "\n"
@@ -93,6 +98,8 @@ def number(value):
 
 
 def pack(job):
+    if job["turning"] != HALF:
+        fail(f"a strip's job turns at 0.5, so one that turns at {written(job['turning'])} cannot be packed")
     words = [word(1, len(job["elements"]))] + number(job["share"]) + number(job["radius"])
     words += [word(5, job["sharpen"]), word(6, job["rounds"]), word(6, len(job["planes"]))]
     for plane in job["planes"]:
@@ -120,7 +127,7 @@ def unpack(strip):
         return take(2, 255) << 56 | take(3) << 28 | take(4)
 
     count = take(1)
-    job = {"share": value(), "radius": value(), "sharpen": take(5, 1), "rounds": take(6)}
+    job = {"share": value(), "radius": value(), "sharpen": take(5, 1), "turning": HALF, "rounds": take(6)}
     job["planes"] = [[value() for _ in range(6)] for _ in range(take(6, 3))]
     job["elements"] = [([value() for _ in range(5)], take(5, 1)) for _ in range(count)]
     if take(7) != at - 1 or at != len(words):
