@@ -125,7 +125,7 @@ opens-rows : (o : Opening) (n : ℕ) → inRows o n ≡ Opens → n ≡ 0
 opens-rows o zero e = refl
 opens-rows o (suc n) e = absurd (let z : _≡_ {A = ℕ} 0 1 = cc in omega arith)
 
-opens-first : (o : Opening) (n : ℕ) → atFirst o n ≡ Opens → (n ≡ 0) × (tableRefusal o ≡ 0)
+pub opens-first : (o : Opening) (n : ℕ) → atFirst o n ≡ Opens → (n ≡ 0) × (tableRefusal o ≡ 0)
 opens-first o zero e = (refl, opens-rows o _ e)
 opens-first o (suc n) e = absurd (let z : _≡_ {A = ℕ} 0 1 = cc in omega arith)
 

@@ -1,7 +1,9 @@
--- `Checks`: what an opening's tests see to. `Parts`: lists that are lent in part. `Formulas`: lengths and counts of what the formulas make.
+-- `Checks`: what an opening's tests see to. `Parts`: lists that are lent in part. `Formulas`: lengths and counts of what the formulas make. `Turning`: when
+-- 28 is due.
 pub mod Checks
 pub mod Parts
 pub mod Formulas
+pub mod Turning
 pub mod Counts
 pub mod Verdicts
 pub mod Alike
