@@ -125,7 +125,7 @@ fn products(repetitions: usize, block: &Block, planes: usize, filter: &Filter) {
     line(&name("back"), &entries, best(repetitions, ours, || drop(black_box(filter.back(black_box(&block.weights))))));
 }
 
-/// The first update of a run, unsharpened, and one sharpened at each steepness; before one of these the same about another density than a half.
+/// The first update of a run, unsharpened, and one sharpened at each steepness, before it the same about another density than a half.
 fn updates(repetitions: usize, block: &Block, filter: &Filter) {
     let Design { volumes, passive, .. } = &block.design;
     let n = volumes.len();
@@ -133,8 +133,8 @@ fn updates(repetitions: usize, block: &Block, filter: &Filter) {
     let [mut x, mut free, mut density, mut slope, mut own, mut dc, mut dv, mut next, mut gain, mut work] =
         std::array::from_fn(|_| vec![0.0; n]);
     let Ok(start) = oc::start(volumes, passive, 0.4, &mut x, &mut free) else { return };
-    let half = |beta| Some(Bend::at_half(beta));
-    for bend in [None, half(1.0), Some(Bend { beta: 4.0, project_at: TURNED }), half(4.0), half(16.0)] {
+    let both = [1.0, 4.0, 16.0].into_iter().flat_map(|beta| [Bend { beta, project_at: TURNED }, Bend::at_half(beta)]);
+    for bend in [None].into_iter().chain(both.map(Some)) {
         let beta = bend.map(|b| b.beta);
         let turned = turned::at(bend.map_or(PROJECT_AT, |b| b.project_at)).expect("the original is compiled for it");
         let mut sure = oc::see(t, passive, &x, bend, Seen { density: &mut density, slope: &mut slope }).is_ok();
