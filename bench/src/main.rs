@@ -147,7 +147,7 @@ fn all(repetitions: usize) {
     });
     line("dist2_to_triangle, list", repetitions, |out| faces::dist2_each(black_box(&points), black_box(&corners), out), rust_inline);
     line("dist2_to_triangle, calls", repetitions, our_calls, rust_calls);
-    println!("\n{:<40} {:>13} {:>13} {:>7}", "best of each side", "ours", "Rust", "ratio");
+    println!("\n{:<48} {:>13} {:>13} {:>7}", "best of each side", "ours", "Rust", "ratio");
     meshes::all(repetitions);
     regions::all(repetitions);
     rounds::all(repetitions);

@@ -45,7 +45,7 @@ pub fn best(repetitions: usize, mut ours: impl FnMut(), mut rust: impl FnMut()) 
 }
 
 pub fn line(name: &str, note: &str, (ours, rust): (f64, f64)) {
-    println!("{name:<40} {:>10.3} ms {:>10.3} ms {:>7.2}  {note}", ours * 1e3, rust * 1e3, ours / rust);
+    println!("{name:<48} {:>10.3} ms {:>10.3} ms {:>7.2}  {note}", ours * 1e3, rust * 1e3, ours / rust);
 }
 
 pub fn grouped(n: usize) -> String {
