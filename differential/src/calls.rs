@@ -293,7 +293,6 @@ fn change(g: &mut Gen, o: &mut Opening) {
         4 if n > 0 => o.volumes[place] = about(g, &[1e20]),
         5 => o.fraction = about(g, &[1.0, 0.001]),
         6 => o.rounds = 0,
-        13 => o.project_at = about(g, &[0.25, 0.75, 0.5]),
         7 => o.passive.fill(true),
         // Just the room that equality refuses.
         8 if n > 0 => {
@@ -308,6 +307,7 @@ fn change(g: &mut Gen, o: &mut Opening) {
             plane[g.below(6)] = about(g, &[1e6, 1e-12]);
             o.planes = vec![plane];
         }
+        13 => o.project_at = about(g, &[0.25, 0.75, 0.5]),
         _ => {
             let lean = g.pick(&[1e-9, 1e-9f64.next_up(), 1.5e-9, 9e-10, 0.5, f64::NAN]);
             o.planes = vec![[0.0, 0.0, 0.0, 1.0, 0.0, 0.0], [0.0, 0.0, 0.0, lean, 1.0, 0.0]];
