@@ -5,9 +5,9 @@
     tools/gen_ffi.py --check    write nothing; fail where one of them is not what would be written
 
 Reads every `#[no_mangle] pub extern "C" fn` of crates/capi/src and the `#[repr(C)]` structs that these name, wherever in crates/
-they stand. It knows the forms that an exported function may have: numbers, bool, such structs by value, & and &mut of a number or
-an array, and slices, which are a pointer and a count of elements. Any other form is an error. The header's comment on refusals is
-the section "Refusals" of docs/API.md.
+they stand, each with the comment above it. It knows the forms that an exported function may have: numbers, bool, such structs by
+value, & and &mut of a number or an array, and slices, which are a pointer and a count of elements. Any other form is an error. The
+header's comment on refusals is the section "Refusals" of docs/API.md.
 """
 import pathlib
 import re
@@ -60,15 +60,21 @@ def code(text):
     return re.sub(r"//[^\n]*", "", text)
 
 
+def said(comment):
+    """The lines of a comment."""
+    return [line[2:].strip() for line in comment.splitlines()]
+
+
 def read_structs():
-    """Every #[repr(C)] struct below crates/: its fields, by its name."""
-    found = {}
+    """Every #[repr(C)] struct below crates/: its fields, and the comment above it, by its name."""
+    found, above = {}, {}
+    shape = r"((?:^//[^\n]*\n)*)^#\[repr\(C\)\]\s*pub struct (\w+)\s*\{(.*?)\}"
     for file in sorted((ROOT / "crates").glob("*/src/**/*.rt")):
-        for m in re.finditer(r"#\[repr\(C\)\]\s*pub struct (\w+)\s*\{(.*?)\}", code(file.read_text(encoding="utf-8")), re.S):
-            if m[1] in found:
-                fail(f"two #[repr(C)] structs are called {m[1]}")
-            found[m[1]] = [named(f) for f in split(m[2])]
-    return found
+        for m in re.finditer(shape, file.read_text(encoding="utf-8"), re.S | re.M):
+            if m[2] in found:
+                fail(f"two #[repr(C)] structs are called {m[2]}")
+            found[m[2]], above[m[2]] = [named(f) for f in split(code(m[3]))], said(m[1])
+    return found, above
 
 
 def read_functions():
@@ -81,12 +87,11 @@ def read_functions():
         if len(exports) != code(text).count("#[no_mangle]"):
             fail(f"{file.name} has an export of a form that is not known")
         for m in exports:
-            comment = [line[2:].strip() for line in m[1].splitlines()]
-            found.append((m[2], comment, [named(p) for p in split(code(m[3]))], m[4] and m[4].split("::")[-1]))
+            found.append((m[2], said(m[1]), [named(p) for p in split(code(m[3]))], m[4] and m[4].split("::")[-1]))
     return found
 
 
-STRUCTS = read_structs()
+STRUCTS, ABOVE = read_structs()
 
 
 # ---- types
@@ -230,7 +235,7 @@ def header(functions):
         "#ifdef __cplusplus", 'extern "C" {', "#endif", "",
     ]
     for name in in_order(functions):
-        out.append("typedef struct {")
+        out += c_comment(ABOVE[name]) + ["typedef struct {"]
         for field, kind in STRUCTS[name]:
             base, dimensions = inner(kind)
             out.append(f"    {c_type(base)} {c_name(field)}{dimensions};")
@@ -275,7 +280,7 @@ def declarations(functions):
     ]
     for name in in_order(functions):
         size, align = layout(name)
-        out += ["#[repr(C)]", "#[derive(Clone, Copy, Debug, Default, PartialEq)]", f"pub struct {name} {{"]
+        out += [f"/// {line}" for line in ABOVE[name]] + ["#[repr(C)]", "#[derive(Clone, Copy, Debug, Default, PartialEq)]", f"pub struct {name} {{"]
         out += [f"    pub {field}: {kind}," for field, kind in STRUCTS[name]]
         out += ["}", f"const _: () = assert!(size_of::<{name}>() == {size} && align_of::<{name}>() == {align});", ""]
     plain = [name for name, _, parameters, _ in functions if not any("*" in p for n, kind in parameters for p in rust_parameter(n, kind))]

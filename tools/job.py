@@ -8,7 +8,7 @@ The text has a line for each thing; what follows a # is a comment:
 
     share F                             the share of the volume to keep
     radius F                            the filter's radius, mm
-    sharpen yes|no
+    sharpen no|yes|full                 full: on to the next steepness after exactly 20 rounds
     turning F                           the density that sharpening turns about; 0.5 where there is no such line. A strip has no place for
                                         it, so that another one is not packed
     rounds N                            the most rounds
@@ -23,6 +23,7 @@ import sys
 
 HEAD = ("share", "radius", "sharpen", "turning", "rounds")
 HALF = 0x3FE0000000000000
+SHARPEN = ("no", "yes", "full")
 
 
 def fail(why):
@@ -61,7 +62,7 @@ def parse(text):
         kind, rest = words[0], words[1:]
         try:
             if kind in HEAD and kind not in job and len(rest) == 1:
-                job[kind] = {"share": bits, "radius": bits, "sharpen": ("no", "yes").index, "turning": bits, "rounds": int}[kind](rest[0])
+                job[kind] = {"share": bits, "radius": bits, "sharpen": SHARPEN.index, "turning": bits, "rounds": int}[kind](rest[0])
             elif kind == "plane" and len(rest) == 6:
                 job["planes"].append([bits(w) for w in rest])
             elif kind == "element" and (len(rest) == 5 or rest[5:] == ["held"]):
@@ -78,7 +79,7 @@ def parse(text):
 
 
 def told(job):
-    out = [f"share {written(job['share'])}", f"radius {written(job['radius'])}", f"sharpen {('no', 'yes')[job['sharpen']]}", f"rounds {job['rounds']}"]
+    out = [f"share {written(job['share'])}", f"radius {written(job['radius'])}", f"sharpen {SHARPEN[job['sharpen']]}", f"rounds {job['rounds']}"]
     out += [f"turning {written(job['turning'])}"] if job["turning"] != HALF else []
     out += ["plane " + " ".join(map(written, plane)) for plane in job["planes"]]
     out += ["element " + " ".join(map(written, numbers)) + (" held" if held else "") for numbers, held in job["elements"]]
@@ -127,7 +128,7 @@ def unpack(strip):
         return take(2, 255) << 56 | take(3) << 28 | take(4)
 
     count = take(1)
-    job = {"share": value(), "radius": value(), "sharpen": take(5, 1), "turning": HALF, "rounds": take(6)}
+    job = {"share": value(), "radius": value(), "sharpen": take(5, 2), "turning": HALF, "rounds": take(6)}
     job["planes"] = [[value() for _ in range(6)] for _ in range(take(6, 3))]
     job["elements"] = [([value() for _ in range(5)], take(5, 1)) for _ in range(count)]
     if take(7) != at - 1 or at != len(words):

@@ -164,7 +164,9 @@ class Walk:
     def header(s,comment,callees,mods):
         P=f'Rattle.{s.crate}.proofs'
         o=[f'-- `{s.crate}::{s.fn}` meets its contract: a walk of its MIR, by hand, written by tools/walks.py. {comment}','-- Assumes nothing.',IMPORTS]
-        o+=s.c.get('use',[])+s.typeuse()+[f'use {P}.{m}' for m in mods]
+        # laws of walks stand in `run`, the lowest crate that has any, but for those that an array of its own needs
+        home=lambda m: P if s.crate=='run' or m.startswith('Local') else 'Rattle.run.proofs'
+        o+=s.c.get('use',[])+s.typeuse()+[f'use {home(m)}.{m}' for m in mods]
         for f,a in callees: o+=s.calleeuse(f,a)
         o+=[f'use {P}.{esc(s.fn)}.Key.{{name as #self}}',f'use {P}.{esc(s.fn)} as self′',f'use {P}.{esc(s.fn)}.Statement as stated',f'use {P}.{esc(s.fn)}.Code as code','',
         'abbrev stayed : Stays (self′.ended .signature .params) (self′.ended .kept)','stayed = all-said (self′.ended .signature .params) (self′.ended .kept)','',

@@ -5,7 +5,7 @@ use std::time::Duration;
 
 use crate::rounds::{BLOCKS, Block, RADIUS, TURNED, about, best, grouped, line};
 use sokdrib::filter::Work;
-use sokdrib::run::{self, Answer, Iteration, Lists, Part, Reply, Said, Scratch, State};
+use sokdrib::run::{self, Answer, Iteration, Lists, Part, Reply, Said, Scratch, Sharpening, State};
 use sokdrib::topo as ours;
 use tenon::topo::{self, Design, Filter, Goal, PROJECT_AT, Stiffness};
 use tenon::turned;
@@ -27,7 +27,7 @@ fn by_library(block: &Block, middles: &[[f64; 3]], entries: usize, sharpen: Opti
     let n = volumes.len();
     let part = Part { volumes, centroids: middles, passive, mirrors: &[] };
     let goal = run::Goal { fraction: 0.4, radius: RADIUS, max_iterations: ROUNDS, ..run::Goal::default() };
-    let goal = sharpen.map_or(goal, |project_at| run::Goal { sharpen: true, project_at, ..goal });
+    let goal = sharpen.map_or(goal, |project_at| run::Goal { sharpen: Sharpening::Early, project_at, ..goal });
     let (mut starts, mut near, mut coef) = (vec![0; n + 1], vec![0; entries], vec![0.0; entries]);
     let [mut design, mut density, mut last, mut energies] = std::array::from_fn(|_| vec![0.0; n]);
     let mut history = [Iteration::default(); ROUNDS];

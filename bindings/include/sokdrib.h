@@ -44,7 +44,8 @@
  *   17  an energy not finite. Left: over. By: answer.
  *   18  the solver failed. Left: over. By: answer.
  *   19  the solid part's work not above 0. Left: over. By: answer.
- *   20  call out of turn, or a state that no run has ("A run", docs/API.md). Left: kept. By: open, answer.
+ *   20  call out of turn, a state that no run has ("A run", docs/API.md), or, across C, a sharpening above 2 in the
+ *       goal or the state. Left: kept. By: open, answer.
  *   21  a boundary triangle names a node that is not there. Left: kept. By: passive, asymmetry.
  *   22  the job strip is malformed. Left: kept. By: the calls of strip_stream and strip_read, program shape: none of
  *       C's.
@@ -74,6 +75,7 @@ typedef struct {
     double z;
 } SokdribVec3;
 
+/* A plane: a point on it and its normal, which need not be of unit length here. */
 typedef struct {
     SokdribVec3 point;
     SokdribVec3 normal;
@@ -84,6 +86,7 @@ typedef struct {
     uint16_t level;
 } SokdribLevelNumbers;
 
+/* The counts of a mesh; or the refusal, with no counts. */
 typedef struct {
     uint32_t refused;
     uint32_t nodes;
@@ -91,11 +94,14 @@ typedef struct {
     uint32_t tris;
 } SokdribMade;
 
+/* How far a boundary is from its image, or the number of a refusal and 0. */
 typedef struct {
     uint32_t refused;
     double distance;
 } SokdribAsymmetry;
 
+/* How far points reach to each side of a plane, where they are off its middle. Where they are about even, where there are none, and at a refusal, off is
+ * false and the reaches are 0. */
 typedef struct {
     uint32_t refused;
     bool off;
@@ -103,6 +109,7 @@ typedef struct {
     double behind;
 } SokdribOffCentre;
 
+/* What a run starts with, or the number of a refusal and zeros. */
 typedef struct {
     uint32_t refused;
     double total;
@@ -117,17 +124,20 @@ typedef struct {
     double slope;
 } SokdribProjected;
 
+/* The volume that a design keeps, or the number of a refusal and 0. */
 typedef struct {
     uint32_t refused;
     double volume;
 } SokdribKept;
 
+/* A run as it stands between two calls. Phase 0: no run is open. 1: the solid part is asked for. 2: a round is. Any other number is no run's. The sharpening is as
+ * in its goal. */
 typedef struct {
     uint32_t phase;
     size_t elements;
     size_t entries;
     double fraction;
-    bool sharpen;
+    uint32_t sharpen;
     size_t max_iterations;
     double project_at;
     size_t rounds;
@@ -138,20 +148,26 @@ typedef struct {
     double compliance;
 } SokdribRunState;
 
+/* What a run is to reach: the share of the volume, the filter's radius, the sharpening, the rounds allowed, and the density that sharpening
+ * turns about. Sharpening 0: off. 1: early. 2: full. Any other number is no goal's. */
 typedef struct {
     double fraction;
     double radius;
-    bool sharpen;
+    uint32_t sharpen;
     size_t max_iterations;
     double project_at;
 } SokdribRunGoal;
 
+/* What a call returns. Reply 0: a refusal and its number. 1: the solid part is asked for. 2: a round is, and its number. 3: a stop, and its number: 0
+ * Settled, 1 LevelledOff, 2 Limit, 3 Budget, 4 Stopped. */
 typedef struct {
     SokdribRunState state;
     uint32_t reply;
     size_t number;
 } SokdribRunReturned;
 
+/* What an answer says beside the energies. Said 0: the solver gave them. 1: it failed. Any other number: it stopped. Then whether the run is to stop, and the
+ * milliseconds elapsed and allowed. */
 typedef struct {
     uint32_t said;
     bool flag;
@@ -159,6 +175,7 @@ typedef struct {
     uint64_t allowed;
 } SokdribRunHeard;
 
+/* A round's record. */
 typedef struct {
     size_t number;
     double compliance;
@@ -169,12 +186,15 @@ typedef struct {
     size_t passes;
 } SokdribRunRecord;
 
+/* What an answer returns, with the record that is to be put at a place of the history: past its end where there is none. */
 typedef struct {
     SokdribRunReturned returned;
     size_t at;
     SokdribRunRecord entry;
 } SokdribRunStep;
 
+/* How an update ended, or the number of a refusal and zeros. Ending 0: met, with the kept volume first. 1: cramped, with the lower and the
+ * upper rate of its bracket. 2: spent, with the kept volume first. */
 typedef struct {
     uint32_t refused;
     uint32_t ending;

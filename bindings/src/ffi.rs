@@ -13,6 +13,7 @@ pub struct Vec3 {
 }
 const _: () = assert!(size_of::<Vec3>() == 24 && align_of::<Vec3>() == 8);
 
+/// A plane: a point on it and its normal, which need not be of unit length here.
 #[repr(C)]
 #[derive(Clone, Copy, Debug, Default, PartialEq)]
 pub struct Mirror {
@@ -29,6 +30,7 @@ pub struct LevelNumbers {
 }
 const _: () = assert!(size_of::<LevelNumbers>() == 8 && align_of::<LevelNumbers>() == 4);
 
+/// The counts of a mesh; or the refusal, with no counts.
 #[repr(C)]
 #[derive(Clone, Copy, Debug, Default, PartialEq)]
 pub struct Made {
@@ -39,6 +41,7 @@ pub struct Made {
 }
 const _: () = assert!(size_of::<Made>() == 16 && align_of::<Made>() == 4);
 
+/// How far a boundary is from its image, or the number of a refusal and 0.
 #[repr(C)]
 #[derive(Clone, Copy, Debug, Default, PartialEq)]
 pub struct Asymmetry {
@@ -47,6 +50,8 @@ pub struct Asymmetry {
 }
 const _: () = assert!(size_of::<Asymmetry>() == 16 && align_of::<Asymmetry>() == 8);
 
+/// How far points reach to each side of a plane, where they are off its middle. Where they are about even, where there are none, and at a refusal, off is
+/// false and the reaches are 0.
 #[repr(C)]
 #[derive(Clone, Copy, Debug, Default, PartialEq)]
 pub struct OffCentre {
@@ -57,6 +62,7 @@ pub struct OffCentre {
 }
 const _: () = assert!(size_of::<OffCentre>() == 24 && align_of::<OffCentre>() == 8);
 
+/// What a run starts with, or the number of a refusal and zeros.
 #[repr(C)]
 #[derive(Clone, Copy, Debug, Default, PartialEq)]
 pub struct Start {
@@ -77,6 +83,7 @@ pub struct Projected {
 }
 const _: () = assert!(size_of::<Projected>() == 16 && align_of::<Projected>() == 8);
 
+/// The volume that a design keeps, or the number of a refusal and 0.
 #[repr(C)]
 #[derive(Clone, Copy, Debug, Default, PartialEq)]
 pub struct Kept {
@@ -85,6 +92,8 @@ pub struct Kept {
 }
 const _: () = assert!(size_of::<Kept>() == 16 && align_of::<Kept>() == 8);
 
+/// A run as it stands between two calls. Phase 0: no run is open. 1: the solid part is asked for. 2: a round is. Any other number is no run's. The sharpening is as
+/// in its goal.
 #[repr(C)]
 #[derive(Clone, Copy, Debug, Default, PartialEq)]
 pub struct RunState {
@@ -92,7 +101,7 @@ pub struct RunState {
     pub elements: usize,
     pub entries: usize,
     pub fraction: f64,
-    pub sharpen: bool,
+    pub sharpen: u32,
     pub max_iterations: usize,
     pub project_at: f64,
     pub rounds: usize,
@@ -104,17 +113,21 @@ pub struct RunState {
 }
 const _: () = assert!(size_of::<RunState>() == 104 && align_of::<RunState>() == 8);
 
+/// What a run is to reach: the share of the volume, the filter's radius, the sharpening, the rounds allowed, and the density that sharpening
+/// turns about. Sharpening 0: off. 1: early. 2: full. Any other number is no goal's.
 #[repr(C)]
 #[derive(Clone, Copy, Debug, Default, PartialEq)]
 pub struct RunGoal {
     pub fraction: f64,
     pub radius: f64,
-    pub sharpen: bool,
+    pub sharpen: u32,
     pub max_iterations: usize,
     pub project_at: f64,
 }
 const _: () = assert!(size_of::<RunGoal>() == 40 && align_of::<RunGoal>() == 8);
 
+/// What a call returns. Reply 0: a refusal and its number. 1: the solid part is asked for. 2: a round is, and its number. 3: a stop, and its number: 0
+/// Settled, 1 LevelledOff, 2 Limit, 3 Budget, 4 Stopped.
 #[repr(C)]
 #[derive(Clone, Copy, Debug, Default, PartialEq)]
 pub struct RunReturned {
@@ -124,6 +137,8 @@ pub struct RunReturned {
 }
 const _: () = assert!(size_of::<RunReturned>() == 120 && align_of::<RunReturned>() == 8);
 
+/// What an answer says beside the energies. Said 0: the solver gave them. 1: it failed. Any other number: it stopped. Then whether the run is to stop, and the
+/// milliseconds elapsed and allowed.
 #[repr(C)]
 #[derive(Clone, Copy, Debug, Default, PartialEq)]
 pub struct RunHeard {
@@ -134,6 +149,7 @@ pub struct RunHeard {
 }
 const _: () = assert!(size_of::<RunHeard>() == 24 && align_of::<RunHeard>() == 8);
 
+/// A round's record.
 #[repr(C)]
 #[derive(Clone, Copy, Debug, Default, PartialEq)]
 pub struct RunRecord {
@@ -147,6 +163,7 @@ pub struct RunRecord {
 }
 const _: () = assert!(size_of::<RunRecord>() == 56 && align_of::<RunRecord>() == 8);
 
+/// What an answer returns, with the record that is to be put at a place of the history: past its end where there is none.
 #[repr(C)]
 #[derive(Clone, Copy, Debug, Default, PartialEq)]
 pub struct RunStep {
@@ -156,6 +173,8 @@ pub struct RunStep {
 }
 const _: () = assert!(size_of::<RunStep>() == 184 && align_of::<RunStep>() == 8);
 
+/// How an update ended, or the number of a refusal and zeros. Ending 0: met, with the kept volume first. 1: cramped, with the lower and the
+/// upper rate of its bracket. 2: spent, with the kept volume first.
 #[repr(C)]
 #[derive(Clone, Copy, Debug, Default, PartialEq)]
 pub struct Update {

@@ -1,33 +1,45 @@
 //! A run: the loop of `optimize` as questions and answers. It is opened, and then each question is answered, until it stops.
 //!
 //! State and lists are the caller's, and each call is to get them as the last one left them. [`State::default`] is the fresh state, with no run open.
-//! A state whose phase is above 2 is no run's: both calls refuse it with 20 and leave it and all lists as before.
+//! A state whose phase or choice of sharpening is above 2 is no run's: both calls refuse it with 20 and leave it and all lists as before.
 use crate::filter::Work;
 use crate::topo::PROJECT_AT;
 use crate::{Refused, ffi};
 pub use ffi::{RunRecord as Iteration, RunState as State};
 
-/// What is asked for: the share of the volume to keep, the filter's radius, whether it is sharpened and the density that this turns about, from 0.25 to 0.75,
-/// and the most rounds. Left out, by `..Goal::default()`, nothing is sharpened, and it turns about a half; of the others the default is none that opens.
+/// Whether the densities are sharpened, at steepness 1, 2, 4, 8 and then 16 to the end, and when a run moves on from each below 16. The numbers are
+/// those of [`State`]'s field `sharpen`.
+#[derive(Clone, Copy, Debug, Default, PartialEq, Eq)]
+pub enum Sharpening {
+    #[default]
+    Off = 0,
+    /// On after 20 rounds, or a change below 0.01: the Rust's way.
+    Early = 1,
+    /// On after exactly 20 rounds, however small the change.
+    Full = 2,
+}
+
+/// What is asked for: the share of the volume to keep, the filter's radius, the sharpening and the density that it turns about, from 0.25 to 0.75,
+/// and the most rounds. Left out, by `..Goal::default()`, the sharpening is off, and turns about a half; of the others the default is none that opens.
 #[derive(Clone, Copy, Debug, PartialEq)]
 pub struct Goal {
     pub fraction: f64,
     pub radius: f64,
-    pub sharpen: bool,
+    pub sharpen: Sharpening,
     pub project_at: f64,
     pub max_iterations: usize,
 }
 
 impl Default for Goal {
     fn default() -> Goal {
-        Goal { fraction: 0.0, radius: 0.0, sharpen: false, project_at: PROJECT_AT, max_iterations: 0 }
+        Goal { fraction: 0.0, radius: 0.0, sharpen: Sharpening::Off, project_at: PROJECT_AT, max_iterations: 0 }
     }
 }
 
 impl From<Goal> for ffi::RunGoal {
     fn from(goal: Goal) -> ffi::RunGoal {
         let Goal { fraction, radius, sharpen, project_at, max_iterations } = goal;
-        ffi::RunGoal { fraction, radius, sharpen, project_at, max_iterations }
+        ffi::RunGoal { fraction, radius, sharpen: sharpen as u32, project_at, max_iterations }
     }
 }
 

@@ -1,7 +1,7 @@
 //! The generated header serves C: programs over it compile without a warning, link with the library and run.
 use sokdrib::Refused;
 use sokdrib::filter::Work;
-use sokdrib::run::{Answer, Goal, Iteration, Lists, Part, Reply, Said, Scratch, State, answer, open};
+use sokdrib::run::{Answer, Goal, Iteration, Lists, Part, Reply, Said, Scratch, Sharpening, State, answer, open};
 use sokdrib::topo::{level_of, modulus};
 use std::path::{Path, PathBuf};
 use std::process::Command;
@@ -90,18 +90,26 @@ fn a_c_program_runs_jobs() {
         passive: &[true, true, false, false, false, false, false, false],
         mirrors: &[[0.0, 0.0, 0.0, 0.0, 1.0, 0.0]],
     };
-    let sharpened = Goal { fraction: 0.5, radius: 1.5, sharpen: true, max_iterations: 60, ..Goal::default() };
+    let sharpened = Goal { fraction: 0.5, radius: 1.5, sharpen: Sharpening::Early, max_iterations: 60, ..Goal::default() };
+    let weights = &[4.0, 4.0, 3.0, 2.5, 2.0, 2.0, 0.5, 1.0];
     let texts = [
         told(worked, one, &[1.0, 0.0]),
-        told(eight, sharpened, &[4.0, 4.0, 3.0, 2.5, 2.0, 2.0, 0.5, 1.0]),
-        told(eight, Goal { project_at: 0.3, ..sharpened }, &[4.0, 4.0, 3.0, 2.5, 2.0, 2.0, 0.5, 1.0]),
+        told(eight, sharpened, weights),
+        told(eight, Goal { sharpen: Sharpening::Full, max_iterations: 85, ..sharpened }, weights),
+        "refused 20\n".into(),
+        told(eight, Goal { project_at: 0.3, ..sharpened }, weights),
         told(worked, Goal { fraction: 0.1, ..one }, &[1.0, 0.0]),
         told(worked, Goal { fraction: 0.1, project_at: 0.0, ..one }, &[1.0, 0.0]),
     ];
     assert_eq!(texts[0], WORKED);
     assert_eq!(texts[1].matches("round").count(), 60);
-    assert!(texts[2].matches("round").count() > 1 && texts[2] != texts[1]);
-    assert_eq!(texts[3..], ["refused 7\n", "refused 28\n"]);
+    // 20 rounds at each steepness below 16, and round 81 the first at 16
+    let steepness = |line: &str| u64::from_str_radix(line.split(' ').nth(5)?, 16).ok().map(f64::from_bits);
+    let course: Vec<f64> = texts[2].lines().filter(|line| line.starts_with("round")).filter_map(steepness).collect();
+    let stages = [1.0, 2.0, 4.0, 8.0, 16.0];
+    assert!(course.len() > 80 && course.iter().enumerate().all(|(k, beta)| *beta == stages[(k / 20).min(4)]), "{course:?}");
+    assert!(texts[4].matches("round").count() > 1 && texts[4] != texts[1]);
+    assert_eq!(texts[5..], ["refused 7\n", "refused 28\n"]);
     let ran = program("run").output().expect("it runs");
     assert!(ran.status.success());
     assert_eq!(String::from_utf8(ran.stdout).expect("it is text"), texts.concat());

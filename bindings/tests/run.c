@@ -12,6 +12,7 @@
 
 enum { REFUSED, SOLID, ROUND, STOP }; /* the replies */
 enum { GAVE, FAILED, HALTED };        /* what the solver said */
+enum { OFF, EARLY, FULL };            /* the goal's sharpening */
 enum { SHORT = 14 };                  /* the refusal that a longer list may cure */
 enum { WORDS = 1040 };                /* the places that `bits` needs */
 static const char *const STOPS[] = {"Settled", "LevelledOff", "Limit", "Budget", "Stopped"};
@@ -113,7 +114,7 @@ static void run(const Job *job) {
 int main(void) {
     /* Document 01's worked example: two elements far apart, the first held solid. */
     Job worked = {
-        .goal = {.fraction = 0.75, .radius = 1.0, .sharpen = false, .project_at = 0.5, .max_iterations = 1}, .elements = 2,
+        .goal = {.fraction = 0.75, .radius = 1.0, .sharpen = OFF, .project_at = 0.5, .max_iterations = 1}, .elements = 2,
         .volumes = (const double[]){1.0, 1.0},
         .centroids = (const double[][3]){{0.0, 0.0, 0.0}, {10.0, 0.0, 0.0}},
         .passive = (const bool[]){true, false},
@@ -123,7 +124,7 @@ int main(void) {
 
     /* Eight elements, symmetric about y = 0, sharpened. */
     Job sharpened = {
-        .goal = {.fraction = 0.5, .radius = 1.5, .sharpen = true, .project_at = 0.5, .max_iterations = 60}, .elements = 8, .planes = 1,
+        .goal = {.fraction = 0.5, .radius = 1.5, .sharpen = EARLY, .project_at = 0.5, .max_iterations = 60}, .elements = 8, .planes = 1,
         .volumes = (const double[]){1.0, 1.0, 1.25, 1.25, 0.75, 0.75, 1.0, 1.0},
         .centroids = (const double[][3]){{0.5, -0.5, 0.0}, {0.5, 0.5, 0.0}, {1.5, -0.5, 0.0}, {1.5, 0.5, 0.0},
                                          {2.5, -0.5, 0.0}, {2.5, 0.5, 0.0}, {3.5, -0.5, 0.0}, {3.5, 0.5, 0.0}},
@@ -133,7 +134,18 @@ int main(void) {
     };
     run(&sharpened);
 
-    /* The same, with the sharpening turned about 0.3. */
+    /* The same with full stages: exactly 20 rounds at each steepness below 16. */
+    sharpened.goal.sharpen = FULL;
+    sharpened.goal.max_iterations = 85;
+    run(&sharpened);
+
+    /* There is no such sharpening: 20. */
+    sharpened.goal.sharpen = 3;
+    run(&sharpened);
+
+    /* Sharpened early, and turned about 0.3. */
+    sharpened.goal.sharpen = EARLY;
+    sharpened.goal.max_iterations = 60;
     sharpened.goal.project_at = 0.3;
     run(&sharpened);
 

@@ -1,11 +1,11 @@
 //! Document 01's worked job, question by question, and calls that are refused, through the bindings.
-use sokdrib::Refused;
 use sokdrib::filter::Work;
-use sokdrib::run::{Answer, Goal, Iteration, Lists, Part, Reply, Said, Scratch, State, Stop, answer, open};
+use sokdrib::run::{Answer, Goal, Iteration, Lists, Part, Reply, Said, Scratch, Sharpening, State, Stop, answer, open};
 use sokdrib::topo::PROJECT_AT;
+use sokdrib::{Refused, ffi};
 
 const PART: Part<'static> = Part { volumes: &[1.0, 1.0], centroids: &[[0.0; 3], [10.0, 0.0, 0.0]], passive: &[true, false], mirrors: &[] };
-const GOAL: Goal = Goal { fraction: 0.75, radius: 1.0, sharpen: false, project_at: PROJECT_AT, max_iterations: 1 };
+const GOAL: Goal = Goal { fraction: 0.75, radius: 1.0, sharpen: Sharpening::Off, project_at: PROJECT_AT, max_iterations: 1 };
 
 #[derive(Clone, Debug, Default, PartialEq)]
 struct Held {
@@ -67,7 +67,7 @@ fn turning_densities() {
         let reply = open(&mut state, PART, goal, false, held.lend(1), &mut work);
         (reply, (state, held, work))
     };
-    for sharpen in [false, true] {
+    for sharpen in [Sharpening::Off, Sharpening::Early, Sharpening::Full] {
         for project_at in outside {
             let goal = Goal { sharpen, project_at, ..GOAL };
             assert_eq!(opened(goal), (Err(Refused(28)), before.clone()));
@@ -110,6 +110,74 @@ fn phases_that_no_run_has() {
             assert_eq!(open(&mut spoiled, PART, GOAL, false, held.lend(1), &mut work), Err(Refused(20)));
             assert_eq!(answer(&mut spoiled, gave, PART, held.lend(1), &mut scratch), Err(Refused(20)));
             assert_eq!((spoiled, held.clone(), work.clone(), scratch.clone()), before);
+        }
+    }
+    assert_eq!(answer(&mut state, gave, PART, held.lend(1), &mut scratch), Ok(Reply::Round(1)));
+}
+
+/// An opening with a goal of numbers.
+fn opened(state: State, goal: ffi::RunGoal, held: &mut Held, work: &mut Work) -> ffi::RunReturned {
+    let Lists { starts, near, coef, design, density, last, history } = held.lend(1);
+    let Work { cell, order, first, sorted, stamp, weight, found, bits } = work;
+    let Part { volumes, centroids, passive, mirrors } = PART;
+    ffi::sokdrib_open(
+        history.len(),
+        state,
+        goal,
+        false,
+        volumes,
+        centroids,
+        passive,
+        mirrors,
+        starts,
+        near,
+        coef,
+        design,
+        density,
+        last,
+        cell,
+        order,
+        first,
+        sorted,
+        stamp,
+        weight,
+        found,
+        bits,
+    )
+}
+
+#[test]
+fn choices_are_numbers_across_c() {
+    for (number, sharpen) in [(0, Sharpening::Off), (1, Sharpening::Early), (2, Sharpening::Full)] {
+        let goal = ffi::RunGoal::from(Goal { sharpen, ..GOAL });
+        assert_eq!(goal, ffi::RunGoal { fraction: 0.75, radius: 1.0, sharpen: number, project_at: 0.5, max_iterations: 1 });
+        let returned = opened(State::default(), goal, &mut Held::default(), &mut Work::of(2));
+        assert_eq!((returned.reply, returned.number, returned.state.sharpen), (1, 0, number));
+    }
+}
+
+#[test]
+fn choices_that_no_run_has() {
+    let (mut state, mut held, mut work, mut scratch) = (State::default(), Held::default(), Work::of(2), Scratch::of(2));
+    (held.starts, held.near, held.coef, held.floats) = ([7; 3], [7; 2], [7.5; 2], [[7.5; 2]; 3]);
+    (work.order[0], work.sorted[0], work.weight[0], work.bits[0], scratch.dc[0]) = (7, [7.5; 3], 7.5, 7, 7.5);
+    let gave = Answer { said: Said::Gave(&[0.5, 0.0]), flag: false, elapsed: 0, allowed: 1 };
+    for open_already in [false, true] {
+        if open_already {
+            assert_eq!(open(&mut state, PART, GOAL, false, held.lend(1), &mut work), Ok(Reply::Solid));
+        }
+        for sharpen in [3, u32::MAX] {
+            let before = (held.clone(), work.clone(), scratch.clone());
+            // In a goal, before any other test: a share of 7 is 5's.
+            for fraction in [GOAL.fraction, 7.0] {
+                let returned = opened(state, ffi::RunGoal { fraction, sharpen, ..GOAL.into() }, &mut held, &mut work);
+                assert_eq!((returned.state, returned.reply, returned.number), (state, 0, 20));
+            }
+            let mut spoiled = State { sharpen, ..state };
+            assert_eq!(answer(&mut spoiled, gave, PART, held.lend(1), &mut scratch), Err(Refused(20)));
+            assert_eq!(open(&mut spoiled, PART, GOAL, false, held.lend(1), &mut work), Err(Refused(20)));
+            assert_eq!(spoiled, State { sharpen, ..state });
+            assert_eq!((held.clone(), work.clone(), scratch.clone()), before);
         }
     }
     assert_eq!(answer(&mut state, gave, PART, held.lend(1), &mut scratch), Ok(Reply::Round(1)));

@@ -4,8 +4,8 @@ use std::hash::{DefaultHasher, Hash, Hasher};
 
 use crate::compare::{Run, Value};
 use crate::inputs::Gen;
-use crate::plain::{Answer, Effect, Opening, Part as Asked, Plain, Reply, Room, Said};
-use crate::runs::{Job, Trace, opens, original_trace, small, turned, turned_long};
+use crate::plain::{Answer, Effect, Opening, Part as Asked, Plain, Reply, Room, Said, Sharpening};
+use crate::runs::{Job, Trace, opens, original_trace, small, staged, turned, turned_long};
 use sokdrib::Refused;
 use sokdrib::filter::Work;
 use sokdrib::run::{self, Goal, Iteration, Lists, Part, Scratch, State};
@@ -14,6 +14,7 @@ use tenon::topo::{Filter, PROJECT_AT, Stop, level_of};
 pub fn all(run: &mut Run) {
     let long = if run.long { vec![large(65_535), large(30_000)] } else { Vec::new() };
     run.jobs("run", 1000, long, small, |job| original_trace(&job), |job| ours_trace(&job));
+    run.jobs("full run", 4000, [], staged, |job| original_trace(&job), |job| ours_trace(&job));
     run.jobs("turned run", 2000, turned_long(), turned, |job| original_trace(&job), |job| ours_trace(&job));
     run.jobs("calls", 250, many(), Script::random, |s| s.theirs(), |s| s.ours());
 }
@@ -170,7 +171,12 @@ fn part(o: &Opening) -> Part<'_> {
 }
 
 fn goal(o: &Opening) -> Goal {
-    Goal { fraction: o.fraction, radius: o.radius, sharpen: o.sharpen, project_at: o.project_at, max_iterations: o.rounds }
+    let sharpen = match o.sharpen {
+        Sharpening::Off => run::Sharpening::Off,
+        Sharpening::Early => run::Sharpening::Early,
+        Sharpening::Full => run::Sharpening::Full,
+    };
+    Goal { fraction: o.fraction, radius: o.radius, sharpen, project_at: o.project_at, max_iterations: o.rounds }
 }
 
 fn stop_of(stop: run::Stop) -> Stop {
@@ -246,8 +252,8 @@ enum Aside {
     Broken(usize),
 }
 
-/// An opening with its lists, and what the caller does; after its end the run is answered once more, and opened again. Each opening is tried first on a
-/// state whose phase is no run's.
+/// An opening with its lists, and what the caller does; after its end the run is answered once more, and opened again. Each opening is tried first on
+/// states whose phase or choice of sharpening is no run's.
 #[derive(Clone)]
 struct Script {
     job: Job,
@@ -321,6 +327,9 @@ impl Script {
         let mut job = Job::random(g, n);
         job.opening.rounds = job.opening.rounds.min(30);
         if g.below(3) == 0 {
+            job.opening.sharpen = Sharpening::Full;
+        }
+        if g.below(2) == 0 {
             job.opening.project_at = g.turning();
         }
         if g.below(3) == 0 {
@@ -393,7 +402,7 @@ impl Script {
         for again in [false, true] {
             let mut opening = self.job.opening.clone();
             opening.flag &= !again;
-            side.open(self, &opening, &self.room, Some(UNKNOWN));
+            (UNKNOWN..BROKEN).for_each(|how| drop(side.open(self, &opening, &self.room, Some(how))));
             let mut asked = side.open(self, &opening, &self.room, None);
             let mut q = 0;
             while let Some(density) = asked {
@@ -453,7 +462,7 @@ fn many() -> Vec<Script> {
             passive: vec![false; n],
             fraction: 0.5,
             radius: 0.5,
-            sharpen: false,
+            sharpen: Sharpening::Off,
             project_at: PROJECT_AT,
             rounds: 1,
             planes: Vec::new(),
@@ -590,8 +599,8 @@ impl Ours {
 }
 
 /// How many ways there are to break a state.
-const BROKEN: usize = 10;
-/// From this one on the phase is no run's, which an opening refuses too.
+const BROKEN: usize = 12;
+/// From this one on the phase, or the choice of sharpening, is no run's, which an opening refuses too.
 const UNKNOWN: usize = 8;
 
 /// A state whose numbers fail the test, made of one that passes.
@@ -606,7 +615,9 @@ fn broken(s: &State, how: usize) -> State {
         6 => State { stage: usize::MAX, ..*s },
         7 => State { phase: 2, rounds: usize::MAX, ..*s },
         UNKNOWN => State { phase: 3, ..*s },
-        _ => State { phase: u32::MAX, ..*s },
+        9 => State { phase: u32::MAX, ..*s },
+        10 => State { sharpen: 3, ..*s },
+        _ => State { sharpen: u32::MAX, ..*s },
     }
 }
 

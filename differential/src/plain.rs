@@ -1,4 +1,4 @@
-//! Document 01's plain run, with 02's turning densities, and what each call leaves in the lists that it is lent: written from their text,
+//! Document 01's plain run, with 02's full stages and turning densities, and what each call leaves in the lists that it is lent: written from their text,
 //! over the original's formulas; elsewhere than about a half over the projection as CR 8 has it, which is written here.
 //!
 //! It is fed the calls' arguments alone: of an opening's lists that are written, and of an answer's lists other than the energies, only the
@@ -12,6 +12,15 @@ use tenon::{Vec3, study};
 /// Places that the list of bits needs, for a filter's build.
 pub const WORDS: usize = 1040;
 
+/// The goal's choice: 01's flag, and CR 13's third value.
+#[derive(Clone, Copy, Debug, Default, PartialEq, Eq, PartialOrd, Ord)]
+pub enum Sharpening {
+    #[default]
+    Off,
+    Early,
+    Full,
+}
+
 /// An opening's arguments.
 #[derive(Clone)]
 pub struct Opening {
@@ -20,7 +29,7 @@ pub struct Opening {
     pub passive: Vec<bool>,
     pub fraction: f64,
     pub radius: f64,
-    pub sharpen: bool,
+    pub sharpen: Sharpening,
     pub project_at: f64,
     pub rounds: usize,
     pub planes: Vec<[f64; 6]>,
@@ -309,13 +318,17 @@ impl Plain {
         (Some(run), Reply::Solid(asked), Effect::Opened)
     }
 
+    fn unsharpened(&self) -> bool {
+        self.given.sharpen == Sharpening::Off
+    }
+
     fn beta(&self) -> Option<f64> {
-        self.given.sharpen.then(|| STEEPNESSES[self.stage])
+        (!self.unsharpened()).then(|| STEEPNESSES[self.stage])
     }
 
     /// "At 16, or unsharpened throughout"
     fn sharpest(&self) -> bool {
-        !self.given.sharpen || STEEPNESSES[self.stage] == 16.0
+        self.unsharpened() || STEEPNESSES[self.stage] == 16.0
     }
 
     fn bend(&self) -> Option<Bend> {
@@ -420,12 +433,20 @@ impl Plain {
                 self.ends(Reply::Stopped(stop, last), Effect::Recorded)
             }
             None => {
-                let here = self.records.iter().filter(|r| r.sharpness == STEEPNESSES[self.stage]).count();
-                if !self.sharpest() && (here >= 20 || change < 0.01) {
+                if !self.sharpest() && self.moves_on(change) {
                     self.stage += 1;
                 }
                 self.asks(self.records.len() + 1, Effect::Recorded)
             }
+        }
+    }
+
+    /// 01: "moving on after 20 rounds or a change below 0.01"; CR 13: "after exactly 20 rounds, however small the change".
+    fn moves_on(&self, change: f64) -> bool {
+        let here = self.records.iter().filter(|r| r.sharpness == STEEPNESSES[self.stage]).count();
+        match self.given.sharpen {
+            Sharpening::Full => here == 20,
+            _ => here >= 20 || change < 0.01,
         }
     }
 
@@ -449,7 +470,7 @@ impl Plain {
     fn steady(&self) -> usize {
         let level = |pair: &&[Record]| {
             let [before, this] = pair else { return false };
-            let counts = !self.given.sharpen || this.sharpness == 16.0;
+            let counts = self.unsharpened() || this.sharpness == 16.0;
             counts && (this.compliance - before.compliance).abs() < 0.001 * this.compliance
         };
         self.records.windows(2).rev().take_while(level).count()

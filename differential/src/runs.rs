@@ -1,4 +1,5 @@
-//! Whole runs, question by question: the original's `optimize` beside the plain run; about another density than a half its loop with another constant.
+//! Whole runs, question by question: the original's `optimize` beside the plain run; of full stages, which it does not know, its loop without the early move,
+//! and about another density than a half its loop with another constant.
 use std::sync::Arc;
 use std::sync::atomic::{AtomicBool, Ordering};
 use std::time::Duration;
@@ -6,14 +7,15 @@ use std::time::Duration;
 use crate::compare::Run;
 use crate::fields;
 use crate::inputs::Gen;
-use crate::plain::{Answer, Opening, Plain, Record, Reply, Room, Said, mirrors};
+use crate::plain::{Answer, Opening, Plain, Record, Reply, Room, Said, Sharpening, mirrors};
 use tenon::stand_ins::{ended, set_clock};
 use tenon::tools::{Cancel, STOPPED};
-use tenon::topo::{Design, Goal, PROJECT_AT, SETTLED, Stiffness, Stop, level_of, modulus};
+use tenon::topo::{Design, Goal, PROJECT_AT, SETTLED, Stiffness, Stop, full, level_of, modulus};
 use tenon::turned::{self, Turned};
 
 pub fn all(run: &mut Run) {
     run.jobs("plain run", 1000, [], small, |job| original_trace(&job), |job| plain_trace(&job));
+    run.jobs("full plain run", 4000, [], staged, |job| original_trace(&job), |job| plain_trace(&job));
     run.jobs("turned plain run", 2000, turned_long(), turned, |job| original_trace(&job), |job| plain_trace(&job));
 }
 
@@ -30,6 +32,17 @@ pub fn small(g: &mut Gen) -> Job {
             return job;
         }
     }
+}
+
+/// The same with full stages, every other one of few elements with rounds for some or all of them and nothing that ends it sooner.
+pub fn staged(g: &mut Gen) -> Job {
+    let mut job = small(g);
+    if job.weights.len() < 100 && g.below(2) == 0 {
+        (job.event, job.flag, job.allowed, job.opening.flag) = ((0, Event::Works), None, u64::MAX, false);
+        job.opening.rounds = g.pick(&[20, 21, 79, 80, 81, 82, 100, 120]);
+    }
+    job.opening.sharpen = Sharpening::Full;
+    job
 }
 
 /// The same about another density than a half, one that the original is compiled for.
@@ -51,7 +64,7 @@ pub fn turned_long() -> impl Iterator<Item = Job> {
         loop {
             let mut job = Job::random(&mut g, 40);
             (job.event, job.flag, job.allowed, job.opening.flag) = ((0, Event::Works), None, u64::MAX, false);
-            (job.opening.sharpen, job.opening.project_at, job.opening.rounds) = (true, t.project_at, 120);
+            (job.opening.sharpen, job.opening.project_at, job.opening.rounds) = (Sharpening::Early, t.project_at, 120);
             if opens(&job) && original_trace(&job).records.last().is_some_and(|r| r.sharpness == 16.0) {
                 return job;
             }
@@ -96,7 +109,7 @@ impl crate::compare::Value for Job {
     }
     fn bits(&self) -> Vec<u64> {
         let o = &self.opening;
-        let mut all = vec![o.volumes.len() as u64, o.rounds as u64, u64::from(o.sharpen), o.planes.len() as u64, u64::from(o.flag)];
+        let mut all = vec![o.volumes.len() as u64, o.rounds as u64, o.sharpen as u64, o.planes.len() as u64, u64::from(o.flag)];
         all.extend([o.fraction, o.radius, o.project_at, self.noise].map(f64::to_bits));
         all.extend([self.event.0 as u64, self.flag.map_or(u64::MAX, |q| q as u64), self.allowed, self.elapsed.len() as u64]);
         let numbers = o.volumes.iter().chain(o.centroids.iter().flatten()).chain(o.planes.iter().flatten()).chain(&self.weights);
@@ -149,7 +162,7 @@ impl Job {
                 passive: (0..n).map(|_| g.below(8) < held).collect(),
                 fraction: 0.05 + 0.9 * g.unit(),
                 radius: g.pick(&[0.001, 0.3, 0.6, 1.0, 1.0]) * near.max(0.001),
-                sharpen: g.below(2) == 0,
+                sharpen: g.pick(&[Sharpening::Early, Sharpening::Off]),
                 project_at: PROJECT_AT,
                 flag: g.below(32) == 0,
                 centroids,
@@ -294,14 +307,18 @@ pub fn original_trace(job: &Job) -> Trace {
         passive: o.passive.clone(),
     };
     let budget = if job.allowed == u64::MAX { Duration::MAX } else { Duration::from_millis(job.allowed) };
-    let goal =
-        Goal { fraction: o.fraction, radius: o.radius, sharpen: o.sharpen, max_iterations: o.rounds, budget, mirrors: mirrors(&o.planes) };
+    let sharpen = o.sharpen != Sharpening::Off;
+    let goal = Goal { fraction: o.fraction, radius: o.radius, sharpen, max_iterations: o.rounds, budget, mirrors: mirrors(&o.planes) };
     let flag = Arc::new(AtomicBool::new(o.flag));
     let mut solver = Solver { job, levels: Vec::new(), flag: flag.clone() };
     let mut trace = Trace::default();
     let records = &mut trace.records;
     set_clock(Duration::ZERO);
-    let optimize = turned::at(o.project_at).expect("the original is compiled for this turning density").optimize;
+    let optimize = match o.sharpen {
+        Sharpening::Full if o.project_at == PROJECT_AT => full::optimize,
+        Sharpening::Full => panic!("the original is not compiled for full stages about another density"),
+        _ => turned::at(o.project_at).expect("the original is compiled for this turning density").optimize,
+    };
     let done = optimize(&design, &goal, &mut solver, &flag, &mut |i| {
         records.push(Record {
             number: i.number,
@@ -392,7 +409,7 @@ mod tests {
             let (a, b) = (original_trace(&job), plain_trace(&job));
             assert!(a.same(&b), "job {k}: ended {} and {}, {} and {} records", a.end, b.end, a.records.len(), b.records.len());
             *seen.entry(a.end).or_default() += 1;
-            let sharpened = job.opening.sharpen;
+            let sharpened = job.opening.sharpen == Sharpening::Early;
             let half = Job { opening: Opening { project_at: PROJECT_AT, ..job.opening.clone() }, ..job };
             let moved = !original_trace(&half).same(&a);
             assert!(sharpened || !moved, "job {k}, which is not sharpened");
@@ -404,15 +421,43 @@ mod tests {
         assert!(other >= 250, "{other} others");
     }
 
+    /// The steepness of each record.
+    fn steepnesses(trace: &Trace) -> Vec<f64> {
+        trace.records.iter().map(|r| r.sharpness).collect()
+    }
+
+    /// CR 13: "the promise of at most 20 becomes exactly 20 and round 81, if it is reached, is the first at 16"; and the plain run is the original's
+    /// without its early move, at every kind of end. Of most jobs the course is another with the early move.
+    #[test]
+    fn full_stages_are_of_20_rounds() {
+        let mut g = Gen::of(1, "full");
+        let course: Vec<f64> = (0..120).map(|k| [1.0, 2.0, 4.0, 8.0, 16.0][(k / 20).min(4)]).collect();
+        let (mut seen, mut last, mut other) = (BTreeMap::new(), 0, 0);
+        for k in 0..500 {
+            let job = staged(&mut g);
+            let (a, b) = (original_trace(&job), plain_trace(&job));
+            assert!(a.same(&b), "job {k}: ended {} and {}, {} and {} records", a.end, b.end, a.records.len(), b.records.len());
+            assert_eq!(steepnesses(&a), course[..a.records.len()], "job {k}");
+            *seen.entry(a.end).or_insert(0) += 1;
+            last += usize::from(a.records.len() > 80);
+            let early = Job { opening: Opening { sharpen: Sharpening::Early, ..job.opening.clone() }, ..job };
+            other += usize::from(steepnesses(&original_trace(&early)) != steepnesses(&a));
+        }
+        for end in [15, 16, 17, 18, 19, 100, 101, 102, 103, 104] {
+            assert!(seen.contains_key(&end), "{end}: {seen:?}");
+        }
+        assert!(last >= 50 && other >= 50, "{last} at 16, {other} with another course by the early move: {seen:?}");
+    }
+
     /// That jobs which are about to settle change by just 0.01, and those about to level off differ by just 0.001 times the work.
     #[test]
     fn changes_just_at_the_limits() {
         let mut g = Gen::of(1, "settling");
-        let (mut at, mut near) = ([0; 2], 0);
+        let (mut at, mut near) = ([0; 2], 0); // by the choice, Off and Early
         for _ in 0..100 {
             let job = Job::settling(&mut g);
             let first = original_trace(&job).records[0].change;
-            at[usize::from(job.opening.sharpen)] += usize::from(first == SETTLED);
+            at[job.opening.sharpen as usize] += usize::from(first == SETTLED);
             near += usize::from((first - SETTLED).abs() < 1e-17);
         }
         assert!(at[0] >= 10 && at[1] >= 10 && near >= 90, "{at:?} at 0.01 and {near} beside it");

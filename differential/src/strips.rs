@@ -6,7 +6,7 @@ use std::process::{Command, Stdio};
 
 use crate::compare::{Run, Value, key};
 use crate::inputs::Gen;
-use crate::plain::{Answer, Opening, Plain, Reply, Room, Said};
+use crate::plain::{Answer, Opening, Plain, Reply, Room, Said, Sharpening};
 use tenon::topo::{Stop, level_of, modulus};
 
 /// What the program holds: elements, records, and places for coefficients and for neighbours.
@@ -14,19 +14,24 @@ const ELEMENTS: usize = 256;
 const RECORDS: usize = 64;
 const PLACES: usize = 4096;
 
+/// The choices of sharpening: those of the Rust, and all.
+const RUST: [Sharpening; 2] = [Sharpening::Early, Sharpening::Off];
+const CHOICES: [Sharpening; 3] = [Sharpening::Early, Sharpening::Off, Sharpening::Full];
+
 /// Compares what the program prints with the reference; `shape` is its file.
 pub fn all(run: &mut Run, shape: &Path) {
     let theirs = |s: Strip| printed(&s.0);
     let ours = |s: Strip| Printed(output(shape, &s.0));
-    let edges = every_word().into_iter().chain([huge(), Strip(Vec::new())]);
-    run.jobs("shape", 200, edges, Strip::random, theirs, ours);
+    let flags = every_flag().into_iter().map(|(_, strip)| strip);
+    let edges = every_word().into_iter().chain(flags).chain([huge(), Strip(Vec::new())]);
+    run.jobs("shape", 200, edges, |g| Strip::random(g, &CHOICES), theirs, ours);
 }
 
 /// A sample for a gate without the Rust: a line for each strip, its bytes in hexadecimal and what the reference prints, with / for the end of a line. Of each way
 /// in which a job can end there are some, with sharpening and without, with planes and without.
 pub fn sample() -> String {
     let mut g = Gen::of(1, "shape");
-    let mut seen: BTreeMap<(String, bool, usize), usize> = BTreeMap::new();
+    let mut seen: BTreeMap<(String, Sharpening, usize), usize> = BTreeMap::new();
     let mut text = String::new();
     let mut put = |strip: &Strip| {
         let hex: String = strip.0.iter().map(|b| format!("{b:02x}")).collect();
@@ -35,7 +40,7 @@ pub fn sample() -> String {
     put(&Strip::of(&worked()));
     put(&Strip(Vec::new()));
     for _ in 0..20_000 {
-        let strip = Strip::random(&mut g);
+        let strip = Strip::random(&mut g, &RUST);
         let job = read(&strip.0).unwrap_or_default();
         let kind = (ending(&printed(&strip.0).0), job.sharpen, job.planes.len());
         let count = seen.entry(kind).or_default();
@@ -102,7 +107,7 @@ fn output(shape: &Path, strip: &[u8]) -> String {
 pub struct Job {
     pub fraction: f64,
     pub radius: f64,
-    pub sharpen: bool,
+    pub sharpen: Sharpening,
     pub rounds: u32,
     pub planes: Vec<[f64; 6]>,
     /// volume, x, y, z, weight
@@ -120,7 +125,7 @@ impl Job {
     pub fn words(&self) -> Vec<u32> {
         let mut w = vec![1 << 28 | self.elements.len() as u32];
         w.extend([self.fraction, self.radius].map(words_of).concat());
-        w.extend([5 << 28 | u32::from(self.sharpen), 6 << 28 | self.rounds, 6 << 28 | self.planes.len() as u32]);
+        w.extend([5 << 28 | self.sharpen as u32, 6 << 28 | self.rounds, 6 << 28 | self.planes.len() as u32]);
         w.extend(self.planes.iter().flatten().flat_map(|v| words_of(*v)));
         for (numbers, held) in &self.elements {
             w.extend(numbers.map(words_of).concat());
@@ -152,6 +157,11 @@ impl Reader<'_> {
         self.next(5).filter(|f| *f <= 1).map(|f| f == 1)
     }
 
+    /// CR 13: "A third sharpening choice, strip flag value 2 (held flags stay 0 or 1)".
+    fn choice(&mut self) -> Option<Sharpening> {
+        [Sharpening::Off, Sharpening::Early, Sharpening::Full].get(self.next(5)? as usize).copied()
+    }
+
     fn number(&mut self) -> Option<f64> {
         let top = self.next(2).filter(|t| *t <= 0xff)?;
         let (middle, low) = (self.next(3)?, self.next(4)?);
@@ -175,7 +185,7 @@ pub fn read(strip: &[u8]) -> Option<Job> {
     let words: Vec<u32> = strip.chunks(4).map(|b| b.iter().rev().fold(0, |w, b| w << 8 | u32::from(*b))).collect();
     let mut r = Reader { words: &words, at: 0 };
     let n = r.next(1)?;
-    let mut job = Job { fraction: r.number()?, radius: r.number()?, sharpen: r.flag()?, rounds: r.next(6)?, ..Job::default() };
+    let mut job = Job { fraction: r.number()?, radius: r.number()?, sharpen: r.choice()?, rounds: r.next(6)?, ..Job::default() };
     let planes = r.next(6).filter(|p| *p <= 3)?;
     for _ in 0..planes {
         job.planes.push(r.numbers()?);
@@ -254,7 +264,7 @@ pub fn worked() -> Job {
 }
 
 impl Job {
-    fn random(g: &mut Gen) -> Job {
+    fn random(g: &mut Gen, choices: &[Sharpening]) -> Job {
         let n = match g.below(32) {
             0 => 200 + g.below(57),
             1 => 257 + g.below(3),
@@ -277,7 +287,7 @@ impl Job {
         Job {
             fraction: 0.05 + 0.9 * g.unit(),
             radius: g.pick(&[0.001, 0.5, 1.0, 1.5, 2.0]),
-            sharpen: g.below(2) == 0,
+            sharpen: g.pick(choices),
             rounds: match g.below(16) {
                 0 => g.pick(&[0, 63, 64, 65, 0xfff_ffff]),
                 1..4 => 20 + g.below(44) as u32,
@@ -323,8 +333,8 @@ impl Strip {
         Strip(bytes(&job.words()))
     }
 
-    fn random(g: &mut Gen) -> Strip {
-        let mut job = Job::random(g);
+    fn random(g: &mut Gen, choices: &[Sharpening]) -> Strip {
+        let mut job = Job::random(g, choices);
         if g.below(3) == 0 {
             (0..1 + g.below(2)).for_each(|_| job.change(g));
         }
@@ -370,6 +380,22 @@ fn every_word() -> Vec<Strip> {
     all
 }
 
+/// The worked job with values of its flags, first the sharpening's and then each element's, and whether the strip is none.
+fn every_flag() -> Vec<(bool, Strip)> {
+    let words = worked().words();
+    let flags = (0..words.len()).filter(|at| words[*at] >> 28 == 5);
+    let each = flags.flat_map(|at| {
+        let most = if at == 7 { 2 } else { 1 };
+        [0, 1, 2, 3, 4, 0xfff_ffff].map(|value| (at, value, value > most))
+    });
+    each.map(|(at, value, none)| {
+        let mut words = words.clone();
+        words[at] = 5 << 28 | value;
+        (none, Strip(bytes(&words)))
+    })
+    .collect()
+}
+
 /// Many megabytes, read to the end before it is refused for its size.
 fn huge() -> Strip {
     let one = ([1.0, 0.0, 0.0, 0.0, 1.0], false);
@@ -393,7 +419,7 @@ mod tests {
         let mut g = Gen::of(1, "shape");
         let mut seen: BTreeMap<String, usize> = BTreeMap::new();
         for _ in 0..6000 {
-            let Printed(text) = printed(&Strip::random(&mut g).0);
+            let Printed(text) = printed(&Strip::random(&mut g, &CHOICES).0);
             *seen.entry(ending(&text)).or_default() += 1;
         }
         let wanted = [2, 4, 5, 6, 7, 8, 9, 11, 12, 14, 17, 19, 22].map(|k| format!("refused {k}"));
@@ -409,6 +435,8 @@ mod tests {
         let worked = Strip::of(&worked()).0.len();
         let cut = every_word();
         assert!(cut[..worked].iter().all(refused) && !refused(&cut[worked]) && cut[worked + 1..worked + 3].iter().all(refused));
+        let flags = every_flag();
+        assert!(flags.len() == 18 && flags.iter().all(|(none, strip)| refused(strip) == *none));
         assert_eq!(printed(&huge().0), Printed("refused 14\n".into()));
     }
 }

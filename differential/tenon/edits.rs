@@ -35,6 +35,7 @@ pub const FILES: &[&str] =
 
 /// Files that are compiled once more, and the path of the copy: with the file's edits and then those that name the path.
 pub const AGAIN: &[(&str, &str)] = &[
+    ("topo/oc.rs", "topo/full.rs"),
     ("topo/oc.rs", "topo/at_0_25.rs"),
     ("topo/oc.rs", "topo/at_0_3.rs"),
     ("topo/oc.rs", "topo/at_0_4.rs"),
@@ -98,6 +99,10 @@ pub const EDITS: &[Edit] = &[
     public("topo/oc.rs", "\nfn volume_slope(", "\npub fn volume_slope("),
     public("topo/oc.rs", "\nfn work_slope(", "\npub fn work_slope("),
     public("topo/oc.rs", "\nfn update(", "\npub fn update("),
+    //
+    // CR 13: "moves on from each steepness below 16 after exactly 20 rounds, however small the change": the loop once more, without its early move.
+    replace("topo/mod.rs", "pub mod oc;\n", "pub mod full;\npub mod oc;\n", 1),
+    replace("topo/full.rs", " || change < SETTLED", "", 1),
     //
     // CR 8: "a turning density from 0.25 to 0.75 which takes the half's place throughout the projection": the loop once more at each of some, with another
     // constant under the name that its formulas have. src/turned.rs lists them.

@@ -31,17 +31,18 @@ pub fn open(
     found: &mut [u32],
     bits: &mut [u64],
 ) -> RunReturned
-    ensures { λ r. ⌜ OpenedAs state (record { centroids = now (centroids .entry); mirrors = now (mirrors .entry); goal = goalOf goal; flag = flag }) room
+    ensures { λ r. ⌜ OpenedAs state goal (record { centroids = now (centroids .entry); mirrors = now (mirrors .entry); goal = goalOf goal; flag = flag }) room
         (record { volumes = now (volumes .entry); passive = now (passive .entry); starts = now (starts .entry); near = now (near .entry); coef = now (coef .entry); design = now (design .entry); density = now (density .entry); last = now (last .entry) })
         (record { cell = now (cell .entry); order = now (order .entry); first = now (first .entry); sorted = now (sorted .entry); stamp = now (stamp .entry); weight = now (weight .entry); found = now (found .entry); bits = now (bits .entry) })
         r
         (record { volumes = now (volumes .entry); passive = now (passive .entry); starts = now (starts .exit); near = now (near .exit); coef = now (coef .exit); design = now (design .exit); density = now (density .exit); last = now (last .entry) })
         (record { cell = now (cell .exit); order = now (order .exit); first = now (first .exit); sorted = now (sorted .exit); stamp = now (stamp .exit); weight = now (weight .exit); found = now (found .exit); bits = now (bits .exit) }) ⌝ }
 {
-    if c_numbers::unknown(state) {
+    let t = c_numbers::unknown(state) | c_numbers::no_goal(goal);
+    if t {
         return c_numbers::refused(state);
     }
-    let t = run_open::open_core(
+    let r = run_open::open_core(
         room,
         c_numbers::state_of(state),
         c_numbers::goal_of(goal),
@@ -65,7 +66,7 @@ pub fn open(
         found,
         bits,
     );
-    c_numbers::returned_numbers(t)
+    c_numbers::returned_numbers(r)
 }
 
 // `run_answer::answer_core`: an answer, the history having room for so many records.

@@ -1,11 +1,13 @@
 -- What the numbers stand for. 01: "For an answer that is an enum, a definition gives this paper's number and values for each case." Definitions only.
-use Prim.Native.Nat.{ℕ, _<_, _≤_}
+use Prim.Native.Nat.{ℕ}
 use mathlib.Core.Path.{_≡_}
-use lib.Dec.{eqb}
+use mathlib.Core.Bool.{Bool, true, false, _||_}
+use lib.Dec.{eqb, ltb}
 use Rattle.lists.specs.Lists.{choose}
 use Rattle.topo.specs.declared.Goal.{Goal}
 use Rattle.topo.specs.declared.Iteration.{Iteration}
 use Rattle.topo.specs.declared.Stop.{Stop as Reason}
+use Rattle.topo.specs.Stages.{sharpeningOf, sharpeningNumber}
 use Rattle.topo.specs.declared.Stop.the-variants.{Settled, LevelledOff, Limit, Budget, Stopped}
 use Rattle.run_plain.specs.declared.Phase.{Phase}
 use Rattle.run_plain.specs.declared.Phase.the-variants.{Idle, Solid, Round}
@@ -41,7 +43,7 @@ unfoldable pub saidOf : ℕ → Said
 saidOf n = choose (eqb n 0) Gave (choose (eqb n 1) Failed Halted)
 
 unfoldable pub goalOf : RunGoal → Goal
-goalOf g = record { fraction = g .fraction; radius = g .radius; sharpen = g .sharpen; «max_iterations» = g .«max_iterations»; «project_at» = g .«project_at» }
+goalOf g = record { fraction = g .fraction; radius = g .radius; sharpen = sharpeningOf (g .sharpen); «max_iterations» = g .«max_iterations»; «project_at» = g .«project_at» }
 
 unfoldable pub heardOf : RunHeard → Heard
 heardOf h = record { said = saidOf (h .said); flag = h .flag; elapsed = h .elapsed; allowed = h .allowed }
@@ -50,7 +52,7 @@ unfoldable pub stateOf : RunState → State
 stateOf s =
     record {
       phase = phaseOf (s .phase);
-      setting = record { elements = s .elements; entries = s .entries; fraction = s .fraction; sharpen = s .sharpen; «max_iterations» = s .«max_iterations»; «project_at» = s .«project_at» };
+      setting = record { elements = s .elements; entries = s .entries; fraction = s .fraction; sharpen = sharpeningOf (s .sharpen); «max_iterations» = s .«max_iterations»; «project_at» = s .«project_at» };
       progress = record { rounds = s .rounds; stage = s .stage; «at_stage» = s .«at_stage»; steady = s .steady };
       compliances = record { solid = s .«solid_compliance»; last = s .compliance };
     }
@@ -62,7 +64,7 @@ stateNumbers s =
       elements = s .setting .elements;
       entries = s .setting .entries;
       fraction = s .setting .fraction;
-      sharpen = s .setting .sharpen;
+      sharpen = sharpeningNumber (s .setting .sharpen);
       «max_iterations» = s .setting .«max_iterations»;
       «project_at» = s .setting .«project_at»;
       rounds = s .progress .rounds;
@@ -117,11 +119,18 @@ pub record AnsweredIn (s : RunState) (a : Arguments) (room : ℕ) (l : Core) (w 
   pub numbers : r ≡ stepNumbers step
   pub answers : CoreAnswered (stateOf s) a room l w step o w′
 
--- with a phase above 2, which no run has: 20, kept. An answer's record is then free, its place past the history's end
-pub record OpenedAs (s : RunState) (g : Asked) (room : ℕ) (l : Core) (w : OpenWork) (r : RunReturned) (o : Core) (w′ : OpenWork) : Type 0 where
-  pub known : s .phase ≤ 2 → OpenedIn s g room l w r o w′
-  pub unknown : 2 < s .phase → (r ≡ refused20 s) × (o ≡ l) × (w′ ≡ w)
+-- numbers that no run has, and a number that no goal has: 0 to 2 are the phases, and the choices of sharpening
+abbrev pub noRuns : RunState → Bool
+noRuns s = ltb 2 (s .phase) || ltb 2 (s .sharpen)
+
+abbrev pub noGoals : RunGoal → Bool
+noGoals g = ltb 2 (g .sharpen)
+
+-- with such a number: 20, kept. An answer's record is then free, its place past the history's end
+pub record OpenedAs (s : RunState) (n : RunGoal) (g : Asked) (room : ℕ) (l : Core) (w : OpenWork) (r : RunReturned) (o : Core) (w′ : OpenWork) : Type 0 where
+  pub known : (noRuns s || noGoals n) ≡ false → OpenedIn s g room l w r o w′
+  pub unknown : (noRuns s || noGoals n) ≡ true → (r ≡ refused20 s) × (o ≡ l) × (w′ ≡ w)
 
 pub record AnsweredAs (s : RunState) (a : Arguments) (room : ℕ) (l : Core) (w : Work) (r : RunStep) (o : Core) (w′ : Work) : Type 0 where
-  pub known : s .phase ≤ 2 → AnsweredIn s a room l w r o w′
-  pub unknown : 2 < s .phase → (r .returned ≡ refused20 s) × (r .at ≡ room) × (o ≡ l) × (w′ ≡ w)
+  pub known : noRuns s ≡ false → AnsweredIn s a room l w r o w′
+  pub unknown : noRuns s ≡ true → (r .returned ≡ refused20 s) × (r .at ≡ room) × (o ≡ l) × (w′ ≡ w)

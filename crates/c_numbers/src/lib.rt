@@ -1,6 +1,5 @@
 // A run's state, answers and records as structs of numbers, for callers that know no enums. The calls over them are those of `c_calls`.
 ghost use mathlib.Core.Path.{_≡_};
-ghost use lib.Dec.{ltb};
 ghost use Rattle.c_numbers.specs.Flat as Flat;
 use run_answer::Step;
 use run_plain::Compliances;
@@ -16,14 +15,15 @@ use topo::Goal;
 use topo::Iteration;
 use topo::Stop;
 
-// A run as it stands between two calls. Phase 0: no run is open. 1: the solid part is asked for. 2: a round is. Any other number is no run's.
+// A run as it stands between two calls. Phase 0: no run is open. 1: the solid part is asked for. 2: a round is. Any other number is no run's. The sharpening is as
+// in its goal.
 #[repr(C)]
 pub struct RunState {
     pub phase: u32,
     pub elements: usize,
     pub entries: usize,
     pub fraction: f64,
-    pub sharpen: bool,
+    pub sharpen: u32,
     pub max_iterations: usize,
     pub project_at: f64,
     pub rounds: usize,
@@ -34,13 +34,13 @@ pub struct RunState {
     pub compliance: f64,
 }
 
-// What a run is to reach: the share of the volume, the filter's radius, whether it sharpens, the rounds allowed, and the density that sharpening
-// turns about.
+// What a run is to reach: the share of the volume, the filter's radius, the sharpening, the rounds allowed, and the density that sharpening
+// turns about. Sharpening 0: off. 1: early. 2: full. Any other number is no goal's.
 #[repr(C)]
 pub struct RunGoal {
     pub fraction: f64,
     pub radius: f64,
-    pub sharpen: bool,
+    pub sharpen: u32,
     pub max_iterations: usize,
     pub project_at: f64,
 }
@@ -117,7 +117,7 @@ pub fn state_of(s: RunState) -> State
             elements: s.elements,
             entries: s.entries,
             fraction: s.fraction,
-            sharpen: s.sharpen,
+            sharpen: topo::sharpening_of(s.sharpen),
             max_iterations: s.max_iterations,
             project_at: s.project_at,
         },
@@ -140,7 +140,7 @@ pub fn goal_of(g: RunGoal) -> Goal
     Goal {
         fraction: g.fraction,
         radius: g.radius,
-        sharpen: g.sharpen,
+        sharpen: topo::sharpening_of(g.sharpen),
         max_iterations: g.max_iterations,
         project_at: g.project_at,
     }
@@ -171,12 +171,14 @@ fn state_numbers(s: State) -> RunState
     ensures { λ r. ⌜ r ≡ Flat.stateNumbers s ⌝ }
 {
     let p = s.phase;
+    let setting = s.setting;
+    let choice = setting.sharpen;
     RunState {
         phase: phase_number(p),
         elements: s.setting.elements,
         entries: s.setting.entries,
         fraction: s.setting.fraction,
-        sharpen: s.setting.sharpen,
+        sharpen: topo::sharpening_number(choice),
         max_iterations: s.setting.max_iterations,
         project_at: s.setting.project_at,
         rounds: s.progress.rounds,
@@ -257,11 +259,18 @@ pub fn step_numbers(s: Step) -> RunStep
     }
 }
 
-// A phase that no run has.
+// A phase, or a sharpening, that no run has.
 pub fn unknown(s: RunState) -> bool
-    ensures { λ r. ⌜ r ≡ ltb 2 (s .phase) ⌝ }
+    ensures { λ r. ⌜ r ≡ Flat.noRuns s ⌝ }
 {
-    s.phase > 2
+    (s.phase > 2) | (s.sharpen > 2)
+}
+
+// A sharpening that no goal has.
+pub fn no_goal(g: RunGoal) -> bool
+    ensures { λ r. ⌜ r ≡ Flat.noGoals g ⌝ }
+{
+    g.sharpen > 2
 }
 
 // Then 20, and the state as it came.

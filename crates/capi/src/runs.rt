@@ -35,7 +35,7 @@ pub extern "C" fn sokdrib_open(
     found: &mut [u32],
     bits: &mut [u64],
 ) -> RunReturned
-    ensures { λ r. ⌜ OpenedAs state (record { centroids = now (centroids .entry); mirrors = now (mirrors .entry); goal = goalOf goal; flag = flag }) room
+    ensures { λ r. ⌜ OpenedAs state goal (record { centroids = now (centroids .entry); mirrors = now (mirrors .entry); goal = goalOf goal; flag = flag }) room
         (record { volumes = now (volumes .entry); passive = now (passive .entry); starts = now (starts .entry); near = now (near .entry); coef = now (coef .entry); design = now (design .entry); density = now (density .entry); last = now (last .entry) })
         (record { cell = now (cell .entry); order = now (order .entry); first = now (first .entry); sorted = now (sorted .entry); stamp = now (stamp .entry); weight = now (weight .entry); found = now (found .entry); bits = now (bits .entry) })
         r

@@ -8,6 +8,7 @@ use Rattle.ieee_whole.specs.Whole as Whole
 use Rattle.ieee_root.specs.Sqrt as Sqrt
 use Rattle.geom.specs.Vectors as Vectors
 use Rattle.topo.specs.Levels as Levels
+use Rattle.topo.specs.Stages as Stages
 use Rattle.cells.specs.Cells as Cells
 use Rattle.lent.specs.Lent as Left
 use Rattle.filter_group.specs.Group as Group
@@ -40,7 +41,7 @@ unfolding Strip.readStrip Lists.choose Strip.accepted Example.strip Example.byte
 is-read = refl
 
 opens : Example.openingFrom Example.head Example.full ≡ Example.job
-unfolding Example.openingFrom
+unfolding Example.openingFrom Stages.sharpeningOf Lists.choose
 opens = refl
 
 -- the work of the solid part, and what each call shows

@@ -11,6 +11,7 @@ use Rattle.geom.specs.Vectors.{vec, two64, image}
 use Rattle.geom.specs.declared.Vec3.{Vec3}
 use Rattle.geom.specs.declared.Mirror.{Mirror}
 use Rattle.faces.specs.Triangle.{dist2ToTriangle}
+use Rattle.topo.specs.declared.Sharpening.the-variants.{Off}
 use Rattle.topo.specs.Levels.{levelOf}
 use Rattle.update_rates.specs.Rates.{half}
 use Rattle.oc_project.specs.Project.{stages, bendOf, projected}
@@ -33,7 +34,7 @@ twoFree share =
       centroids = twoPoints;
       passive = false ∷ false ∷ [];
       mirrors = [];
-      goal = record { fraction = share; radius = one64; sharpen = false; «max_iterations» = 1; «project_at» = half };
+      goal = record { fraction = share; radius = one64; sharpen = Off; «max_iterations» = 1; «project_at» = half };
       flag = false;
       lent = room (256 ∷ 256 ∷ 257 ∷ 256 ∷ 256 ∷ 256 ∷ 256 ∷ 1040 ∷ []);
     }

@@ -9,7 +9,9 @@ use lib.Ieee.{Float, binary64, ofBits}
 use Rattle.lists.specs.Lists.{zero64}
 use Rattle.ieee.specs.Basic.{one64}
 use Rattle.topo.specs.declared.Iteration.{Iteration}
+use Rattle.topo.specs.declared.Sharpening.the-variants.{Off}
 use Rattle.topo.specs.declared.Stop.the-variants.{Limit}
+use Rattle.topo.specs.Stages.{sharpeningOf}
 use Rattle.update_rates.specs.Rates.{half}
 use Rattle.shape_solver.specs.Energies.{energiesOf}
 use Rattle.shape_report.specs.Report.{ascii, ran, textOf}
@@ -51,7 +53,7 @@ strip =
 
 -- what a reading of it says: 64-bit patterns
 abbrev pub head : Job
-head = record { elements = 2; fraction = 0x3fe8_0000_0000_0000; radius = 0x3ff0_0000_0000_0000; sharpen = false; «max_iterations» = 1; mirrors = 0 }
+head = record { elements = 2; fraction = 0x3fe8_0000_0000_0000; radius = 0x3ff0_0000_0000_0000; sharpen = 0; «max_iterations» = 1; mirrors = 0 }
 
 -- "It holds 256 elements [..], all zero at the start"
 abbrev pub empty : Lists
@@ -79,7 +81,7 @@ openingFrom j l =
       centroids = map (map (ofBits binary64)) (take (j .elements) (l .centroids));
       passive = take (j .elements) (l .passive);
       mirrors = map (map (ofBits binary64)) (take (j .mirrors) (l .mirrors));
-      goal = record { fraction = ofBits binary64 (j .fraction); radius = ofBits binary64 (j .radius); sharpen = j .sharpen; «max_iterations» = j .«max_iterations»; «project_at» = half };
+      goal = record { fraction = ofBits binary64 (j .fraction); radius = ofBits binary64 (j .radius); sharpen = sharpeningOf (j .sharpen); «max_iterations» = j .«max_iterations»; «project_at» = half };
       flag = false;
       lent = room (256 ∷ 256 ∷ 257 ∷ 256 ∷ 256 ∷ 256 ∷ 256 ∷ 1040 ∷ []);
     }
@@ -101,7 +103,7 @@ job =
       centroids = (zero64 ∷ zero64 ∷ zero64 ∷ []) ∷ (ofBits binary64 0x4024_0000_0000_0000 ∷ zero64 ∷ zero64 ∷ []) ∷ [];
       passive = true ∷ false ∷ [];
       mirrors = [];
-      goal = record { fraction = ofBits binary64 0x3fe8_0000_0000_0000; radius = one64; sharpen = false; «max_iterations» = 1; «project_at» = half };
+      goal = record { fraction = ofBits binary64 0x3fe8_0000_0000_0000; radius = one64; sharpen = Off; «max_iterations» = 1; «project_at» = half };
       flag = false;
       lent = room (256 ∷ 256 ∷ 257 ∷ 256 ∷ 256 ∷ 256 ∷ 256 ∷ 1040 ∷ []);
     }

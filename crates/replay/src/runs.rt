@@ -19,6 +19,7 @@ use run_plain::Setting;
 use run_plain::State;
 use topo::Goal;
 use topo::Iteration;
+use topo::Sharpening;
 use topo::Stop;
 
 // The records that a run may make, and more turns than it takes.
@@ -41,7 +42,7 @@ fn fresh() -> State {
             elements: 0,
             entries: 0,
             fraction: 0.0,
-            sharpen: false,
+            sharpen: Sharpening::Off,
             max_iterations: 0,
             project_at: 0.0,
         },
@@ -293,10 +294,18 @@ fn run(
     is_end(t, &last)
 }
 
+// The Rust knows no full stages.
+fn sharpening(n: u64) -> Sharpening {
+    if n == 0 {
+        return Sharpening::Off;
+    }
+    Sharpening::Early
+}
+
 fn goal() -> Goal {
     let fraction = number();
     let radius = number();
-    let sharpen = word() != 0;
+    let sharpen = sharpening(word());
     let max_iterations = (word() % 1000) as usize;
     Goal {
         fraction,

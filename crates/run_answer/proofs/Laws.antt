@@ -11,6 +11,7 @@ use borrow.Author.Tests.{eqb-true, not-false}
 use Rattle.lists.specs.Lists.{choose, overlay}
 use Rattle.lists.proofs.Laws.{neither}
 use Rattle.topo.specs.declared.Iteration.{Iteration}
+use Rattle.topo.specs.Stages.{sharpens}
 use Rattle.topo.specs.declared.Stop.{Stop}
 use Rattle.topo.specs.declared.Stop.the-variants.{Stopped}
 use Rattle.oc_project.specs.Project.{bendOf}
@@ -24,7 +25,7 @@ use Rattle.run_plain.specs.declared.Verdict.{Verdict}
 use Rattle.run_plain.specs.declared.Verdict.the-variants.{Kept, Over, Halts, Begins, Solves}
 use Rattle.run_plain.specs.declared.Course.{Course}
 use Rattle.run_plain.specs.declared.Course.the-variants.{Onward, Ends}
-use Rattle.lent.specs.Lent.{short}
+use Rattle.lent.specs.Lent.{Free, short}
 use Rattle.lent.proofs.Lent.{not-short}
 use Rattle.run_plain.specs.Lent.{answerWork, runShort, answerShort}
 use Rattle.run_plain.specs.Formulas.{sharpness, see}
@@ -36,7 +37,7 @@ use Rattle.run_plain.proofs.Formulas.{length-update}
 use Rattle.run_plain.proofs.Verdicts.{SaneIf}
 use Rattle.run_verdict.proofs.Judged.{sane}
 use Rattle.run_answer.specs.declared.Step.{Step}
-use Rattle.run_answer.specs.Answers.{Work, lengthsOf, verdictIn, Scratched, worked, CoreAnswered}
+use Rattle.run_answer.specs.Answers.{Work, lengthsOf, verdictIn, worked, CoreAnswered}
 use Rattle.run_answer.specs.Steps.{Asks, Enough, questionAt, entryIn, designIn, Solved, Begun, Followed}
 
 -- ---- lists that suffice
@@ -78,11 +79,11 @@ asks-later s p st ne co x q sp x′ sp′ n e f =
     record { passive = n .passive; starts = n .starts; near = n .near; coef = n .coef; design = subst (λ (k : ℕ). s .setting .elements ≤ k) (sym e) (n .design); density = n .density; spare = subst (λ (k : ℕ). s .setting .elements ≤ k) (sym f) (n .spare) }
 
 -- as lent
-untouched : (n : ℕ) (l : List Float) → Scratched n l l
-untouched n l = record { long = refl; rest = refl }
+untouched : (n : ℕ) (l : List Float) → Free n l l
+untouched n l = (refl, refl)
 
-again : {n : ℕ} {a b c : List Float} → Scratched n a b → Scratched n b c → Scratched n a c
-again f g = record { long = g .long ∙ f .long; rest = g .rest ∙ f .rest }
+again : {n : ℕ} {a b c : List Float} → Free n a b → Free n b c → Free n a c
+again f g = (g .0 ∙ f .0, g .1 ∙ f .1)
 
 module _ (s : State) (a : Arguments) (room : ℕ) (l : Core) (w : Work) (v : Verdict) (e : v ≡ verdictIn s a room l w) where
   -- an answer by its verdict
@@ -169,7 +170,7 @@ module _ (s : State) (a : Arguments) (l : Core) (w : Work) where
 
   pub onward-law : (st : State) (entry : Iteration) (t : Course) (n : ℕ) (design density last : List Float) (w′ : Work) (slope : List Float) → Enough s (a .energies) l w → Solved s (a .energies) l w entry design last w′
       → t ≡ firstStop (stopsAt s (a .heard) entry) → t ≡ Onward → st ≡ onwardState s entry
-      → (density ≡ overlay (questionAt s (st .progress .stage) (l .passive) (l .starts) (l .near) (l .coef) design) (l .density)) × Scratched (s .setting .elements) (w′ .slope) slope
+      → (density ≡ overlay (questionAt s (st .progress .stage) (l .passive) (l .starts) (l .near) (l .coef) design) (l .density)) × Free (s .setting .elements) (w′ .slope) slope
       → n ≡ suc (suc (s .progress .rounds))
       → Followed s a l w (record { returned = record { state = st; reply = Round n }; at = s .progress .rounds; entry = entry })
       (record { volumes = l .volumes; passive = l .passive; starts = l .starts; near = l .near; coef = l .coef; design = design; density = density; last = last })
@@ -178,7 +179,7 @@ module _ (s : State) (a : Arguments) (l : Core) (w : Work) where
   onward-law st entry t n design density last w′ slope z o g d c q en =
       let c′ = c ∙ ap (onwardState s) (o .entry) in
       let x′ : take (s .setting .elements) design ≡ designIn s (a .energies) l = ap (take (s .setting .elements)) (o .design-is) ∙ updated-whole z in
-      let q′ = q .0 ∙ (λ i. overlay (seenDensity (choose (s .setting .sharpen) (At (bendOf (sharpness (steepAt (c′ i .progress .stage))) (s .setting .«project_at»))) Off) (take (suc (s .setting .elements)) (l .starts)) (take (s .setting .entries) (l .near)) (take (s .setting .entries) (l .coef)) (take (s .setting .elements) (l .passive)) (x′ i)) (l .density)) in
+      let q′ = q .0 ∙ (λ i. overlay (seenDensity (choose (sharpens (s .setting .sharpen)) (At (bendOf (sharpness (steepAt (c′ i .progress .stage))) (s .setting .«project_at»))) Off) (take (suc (s .setting .elements)) (l .starts)) (take (s .setting .entries) (l .near)) (take (s .setting .entries) (l .coef)) (take (s .setting .elements) (l .passive)) (x′ i)) (l .density)) in
       record {
         same = λ h. (λ i. record {
           state = c′ i;

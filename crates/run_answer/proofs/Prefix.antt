@@ -8,7 +8,7 @@ use lib.ListN.{length, take, drop, length-append, length-drop}
 use lib.Seq.{length-take-le}
 use lib.Ieee.{Float}
 use Rattle.lists.specs.Lists.{overlay}
-use Rattle.run_answer.specs.Answers.{Scratched}
+use Rattle.lent.specs.Lent.{Free}
 
 module _ {A : Type 0} where
   -- n places at the front are n places
@@ -31,10 +31,10 @@ module _ {A : Type 0} where
 pub as-long : {A B : Type 0} (n : ℕ) (l : List A) (m : List B) → n ≤ length l → n ≤ length m → length (take n l) ≡ length (take n m)
 as-long n l m h k = sym (front n l h) ∙ front n m k
 
-pub scratched : (n : ℕ) (ys l : List Float) → length ys ≡ length (take n l) → n ≤ length l → Scratched n l (ys ++ drop n l)
+pub scratched : (n : ℕ) (ys l : List Float) → length ys ≡ length (take n l) → n ≤ length l → Free n l (ys ++ drop n l)
 scratched n ys l h b =
     let e : length ys ≡ n = h ∙ sym (front n l b) in
-    record { long = length-append ys (drop n l) ∙ (λ i. e i + length-drop n l i) ∙ omega arith; rest = drop-laid n ys l e }
+    (length-append ys (drop n l) ∙ (λ i. e i + length-drop n l i) ∙ omega arith, drop-laid n ys l e)
 
 -- one place more, as the code counts it
 pub take-one : {A : Type 0} (n : ℕ) (l : List A) → take (n + 1) l ≡ take (suc n) l

@@ -2,8 +2,9 @@
 use mathlib.Core.Path.{_≡_}
 use mathlib.Core.List.{List, [], _∷_}
 use Prim.Native.Nat.{ℕ}
-use lib.ListN.{length, drop, set}
+use lib.ListN.{length, set}
 use lib.Ieee.{Float}
+use Rattle.lent.specs.Lent.{Free}
 use Rattle.topo.specs.declared.Iteration.{Iteration}
 use Rattle.run_plain.specs.declared.State.{State}
 use Rattle.run_plain.specs.declared.Verdict.{Verdict}
@@ -26,17 +27,12 @@ lengthsOf w = length (w .free) ∷ length (w .slope) ∷ length (w .spare) ∷ l
 abbrev pub verdictIn : State → Arguments → ℕ → Core → Work → Verdict
 verdictIn s a room l w = judged (partOf s) (checksAt s a (sizesIn (lengthsOf w) l room))
 
--- its first n places are free, and those past them as lent
-pub record Scratched (n : ℕ) (before later : List Float) : Type 0 where
-  pub long : length later ≡ length before
-  pub rest : drop n later ≡ drop n before
-
 pub record Scratch (n : ℕ) (w w′ : Work) : Type 0 where
-  pub free : Scratched n (w .free) (w′ .free)
-  pub slope : Scratched n (w .slope) (w′ .slope)
-  pub spare : Scratched n (w .spare) (w′ .spare)
-  pub dc : Scratched n (w .dc) (w′ .dc)
-  pub dv : Scratched n (w .dv) (w′ .dv)
+  pub free : Free n (w .free) (w′ .free)
+  pub slope : Free n (w .slope) (w′ .slope)
+  pub spare : Free n (w .spare) (w′ .spare)
+  pub dc : Free n (w .dc) (w′ .dc)
+  pub dv : Free n (w .dv) (w′ .dv)
 
 -- the working lists after an answer: as lent where it is refused or the solver stopped, else free in the needed places alone
 abbrev pub worked : ℕ → Work → Work → Verdict → Type 0

@@ -6,8 +6,10 @@ use mathlib.Core.List.{List}
 use Prim.Native.Nat.{ℕ, suc, _≤_}
 use lib.ListN.{length, take}
 use lib.Ieee.{Float}
+use Rattle.lent.specs.Lent.{Free}
 use Rattle.lists.specs.Lists.{choose, overlay}
 use Rattle.topo.specs.declared.Iteration.{Iteration}
+use Rattle.topo.specs.Stages.{sharpens}
 use Rattle.oc_project.specs.Project.{bendOf}
 use Rattle.oc_seen.specs.declared.Sharpness.the-variants.{Off, At}
 use Rattle.oc_seen.specs.Seen.{seenDensity}
@@ -19,7 +21,7 @@ use Rattle.run_plain.specs.Formulas.{Case, sharpness, updateAt, recordAt}
 use Rattle.run_plain.specs.Calls.{Core, Arguments, listsOf, steepAt, firstState, answerBy}
 use Rattle.run_round.specs.Round.{caseAt}
 use Rattle.run_answer.specs.declared.Step.{Step}
-use Rattle.run_answer.specs.Answers.{Work, Scratched, Scratch, recorded}
+use Rattle.run_answer.specs.Answers.{Work, Scratch, recorded}
 
 -- lists that are long enough for a question, and for a round
 pub record Asks (s : State) (p : List Bool) (st ne : List ℕ) (co x q sp : List Float) : Type 0 where
@@ -50,14 +52,14 @@ pub record Enough (s : State) (u : List Float) (l : Core) (w : Work) : Type 0 wh
 -- the densities of a question at a stage, by the needed places of the lists
 abbrev pub questionAt : State → ℕ → List Bool → List ℕ → List ℕ → List Float → List Float → List Float
 questionAt s stage p st ne co x =
-    seenDensity (choose (s .setting .sharpen) (At (bendOf (sharpness (steepAt stage)) (s .setting .«project_at»))) Off)
+    seenDensity (choose (sharpens (s .setting .sharpen)) (At (bendOf (sharpness (steepAt stage)) (s .setting .«project_at»))) Off)
     (take (suc (s .setting .elements)) st) (take (s .setting .entries) ne) (take (s .setting .entries) co) (take (s .setting .elements) p) (take (s .setting .elements) x)
 
 -- what the formulas read
 abbrev pub caseIn : State → Core → Case
 caseIn s l =
     caseAt (take (s .setting .elements) (l .volumes)) (take (s .setting .elements) (l .passive)) (take (suc (s .setting .elements)) (l .starts)) (take (s .setting .entries) (l .near)) (take (s .setting .entries) (l .coef))
-    (s .setting .fraction) (s .setting .sharpen) (s .setting .«project_at»)
+    (s .setting .fraction) (sharpens (s .setting .sharpen)) (s .setting .«project_at»)
 
 abbrev pub entryIn : State → List Float → Core → Iteration
 entryIn s energies l =
@@ -79,7 +81,7 @@ pub record Begun (s : State) (energies : List Float) (room : ℕ) (p : List Bool
   pub reply : r .returned .reply ≡ Round 1
   pub at : r .at ≡ room
   pub density : q′ ≡ overlay (questionAt s (s .progress .stage) p st ne co x) q
-  pub slope : Scratched (s .setting .elements) sp sp′
+  pub slope : Free (s .setting .elements) sp sp′
 
 -- a round is solved and recorded: a stop, or the next round
 pub record Followed (s : State) (a : Arguments) (l : Core) (w : Work) (r : Step) (o : Core) (w′ : Work) : Type 0 where

@@ -2,7 +2,7 @@
 ghost use mathlib.Core.Path.{_≡_};
 ghost use Prim.Native.Nat.{_<_};
 ghost use Rattle.lists.specs.Lists.{overlay};
-ghost use Rattle.run_answer.specs.Answers.{Scratched};
+ghost use Rattle.lent.specs.Lent.{Free};
 ghost use Rattle.run_answer.specs.Steps.{Asks, Enough, questionAt, Solved};
 use run_plain::State;
 use topo::Iteration;
@@ -21,12 +21,15 @@ pub fn ask(
 )
     requires { ⌜ Asks state (now passive) (now starts) (now near) (now coef) (now design) (now density) (now spare) ⌝ }
     ensures { λ _. ⌜ (now (density .exit) ≡ overlay (questionAt state stage (now (passive .entry)) (now (starts .entry)) (now (near .entry)) (now (coef .entry)) (now (design .entry))) (now (density .entry)))
-        × Scratched (state .setting .elements) (now (spare .entry)) (now (spare .exit)) ⌝ }
+        × Free (state .setting .elements) (now (spare .entry)) (now (spare .exit)) ⌝ }
 {
+    let setting = state.setting;
+    let choice = setting.sharpen;
+    let sharpen = topo::sharpens(choice);
     let n = state.setting.elements;
     let e = state.setting.entries;
     run_round::ask(
-        state.setting.sharpen,
+        sharpen,
         state.setting.project_at,
         stage,
         &starts[..n + 1usize],
@@ -68,6 +71,9 @@ pub fn solve(
         r (now (design .exit)) (now (last .exit))
         (record { free = now (free .exit); slope = now (slope .exit); spare = now (spare .exit); dc = now (dc .exit); dv = now (dv .exit) }) ⌝ }
 {
+    let setting = state.setting;
+    let choice = setting.sharpen;
+    let sharpen = topo::sharpens(choice);
     let n = state.setting.elements;
     let e = state.setting.entries;
     update_design::copy(&density[..n], &mut last[..n]);
@@ -75,7 +81,7 @@ pub fn solve(
         state.progress.rounds + 1usize,
         state.progress.stage,
         state.setting.fraction,
-        state.setting.sharpen,
+        sharpen,
         state.setting.project_at,
         energies,
         &volumes[..n],

@@ -4,7 +4,7 @@ ghost use Prim.Native.Nat.{suc, _<_};
 ghost use Rattle.lists.specs.Lists.{choose};
 ghost use Rattle.run_plain.specs.Formulas.{small as smallOf, level as levelOf};
 ghost use Rattle.run_plain.specs.Plain.{firstStop, sharpest as sharpestOf};
-ghost use Rattle.run_plain.specs.Calls.{steepAt, levelAt, steadyAt, stopsAt, onwardState, recordedState, firstState};
+ghost use Rattle.run_plain.specs.Calls.{steepAt, levelAt, steadyAt, stopsAt, dueAt, onwardState, recordedState, firstState};
 ghost use Rattle.run_course.specs.Fit.{Fit};
 use run_plain::Compliances;
 use run_plain::Course;
@@ -13,6 +13,7 @@ use run_plain::Phase;
 use run_plain::Progress;
 use run_plain::State;
 use topo::Iteration;
+use topo::Sharpening;
 use topo::Stop;
 
 fn small(change: f64) -> bool
@@ -28,10 +29,10 @@ fn level(before: f64, compliance: f64) -> bool
 }
 
 // Without sharpening, or at its last stage, the design is as sharp as it gets.
-fn sharpest(sharpen: bool, stage: usize) -> bool
+fn sharpest(sharpen: Sharpening, stage: usize) -> bool
     ensures { λ r. ⌜ r ≡ sharpestOf sharpen (steepAt stage) ⌝ }
 {
-    (!sharpen) | (4 <= stage)
+    (!topo::sharpens(sharpen)) | (4 <= stage)
 }
 
 // Whether the work is level with that of the round before, if there is one.
@@ -47,7 +48,9 @@ fn steady_after(state: State, compliance: f64) -> usize
     requires { ⌜ state .progress .steady < 5 ⌝ }
     ensures { λ r. ⌜ r ≡ steadyAt state compliance ⌝ }
 {
-    let sharp = sharpest(state.setting.sharpen, state.progress.stage);
+    let setting = state.setting;
+    let choice = setting.sharpen;
+    let sharp = sharpest(choice, state.progress.stage);
     let level = level_at(state, compliance);
     if sharp & level {
         return state.progress.steady + 1;
@@ -60,7 +63,9 @@ pub fn course(state: State, heard: Heard, entry: Iteration) -> Course
     requires { ⌜ Fit state ⌝ }
     ensures { λ r. ⌜ r ≡ firstStop (stopsAt state heard entry) ⌝ }
 {
-    let sharp = sharpest(state.setting.sharpen, state.progress.stage);
+    let setting = state.setting;
+    let choice = setting.sharpen;
+    let sharp = sharpest(choice, state.progress.stage);
     let small = small(entry.change);
     let steady = steady_after(state, entry.compliance);
     if sharp & small {
@@ -104,22 +109,34 @@ pub fn first_state(state: State, compliance: f64) -> State
     }
 }
 
+// Whether the steepness moves on: after 20 rounds at it, or early at a small change.
+fn due(state: State, entry: Iteration) -> bool
+    requires { ⌜ state .progress .«at_stage» < 20 ⌝ }
+    ensures { λ r. ⌜ r ≡ dueAt state entry ⌝ }
+{
+    let setting = state.setting;
+    let choice = setting.sharpen;
+    let early = topo::early(choice);
+    let small = small(entry.change);
+    (20 <= state.progress.at_stage + 1) | (early & small)
+}
+
 // A round is recorded and the next asked for.
 pub fn onward_state(state: State, entry: Iteration) -> State
     requires { ⌜ Fit state ⌝ }
     ensures { λ r. ⌜ r ≡ onwardState state entry ⌝ }
 {
-    let sharp = sharpest(state.setting.sharpen, state.progress.stage);
-    let small = small(entry.change);
+    let setting = state.setting;
+    let choice = setting.sharpen;
+    let sharp = sharpest(choice, state.progress.stage);
     let steady = steady_after(state, entry.compliance);
-    let due = (20 <= state.progress.at_stage + 1) | small;
+    let due = due(state, entry);
     let stage = either(
         sharp,
         state.progress.stage,
         either(due, state.progress.stage + 1, state.progress.stage),
     );
     let at_stage = either(sharp, 0, either(due, 0, state.progress.at_stage + 1));
-    let setting = state.setting;
     State {
         phase: Phase::Round,
         setting,

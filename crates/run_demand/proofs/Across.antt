@@ -1,9 +1,8 @@
 -- Demand 3 across the boundary: whatever `sokdrib_open` and `sokdrib_answer` tell that meets their contracts is what the plain run shows. Assumes nothing.
 use mathlib.Core.Path.{_≡_, refl, sym, ap, _∙_, subst}
-use mathlib.Core.Bool.{Bool, true, false}
+use mathlib.Core.Bool.{Bool, true, false, _||_}
 use mathlib.Core.List.{List, [], _∷_, map}
-use Prim.Native.Nat.{ℕ, _≤_}
-use native.Mathlib.Omega.{arith}
+use Prim.Native.Nat.{ℕ}
 use lib.ListN.{length, take, set, length-map}
 use lib.Dec.{eqb}
 use Rattle.lists.specs.Lists.{choose, overlay}
@@ -27,8 +26,8 @@ use Rattle.c_numbers.specs.declared.RunState.{RunState}
 use Rattle.c_numbers.specs.declared.RunReturned.{RunReturned}
 use Rattle.c_numbers.specs.declared.RunRecord.{RunRecord}
 use Rattle.c_numbers.specs.declared.RunStep.{RunStep}
-use Rattle.c_numbers.specs.Flat.{phaseOf, stateOf, stateNumbers, stopNumber, replyKind, replyNumber, returnedNumbers, recordNumbers, stepNumbers, OpenedIn, AnsweredIn}
-use Rattle.run_demand.specs.Across.{Held, recordOf, worldOf, lentCore, backCore, OpenCall, AnswerCall, MetOpen, argumentsOf, Met, AllMet, opened, answered, stopOf, outOf, leftAt, seenFrom, seenShut, seenRun, callOf}
+use Rattle.c_numbers.specs.Flat.{phaseOf, stateOf, stateNumbers, stopNumber, replyKind, replyNumber, returnedNumbers, recordNumbers, stepNumbers, noRuns, noGoals, OpenedIn, AnsweredIn}
+use Rattle.run_demand.specs.Across.{Held, recordOf, worldOf, lentCore, backCore, OpenCall, AnswerCall, MetOpen, askedOf, argumentsOf, Met, AllMet, opened, answered, stopOf, outOf, leftAt, seenFrom, seenShut, seenRun, callOf}
 use Rattle.c_numbers.proofs.Laws.{state-passes}
 
 -- ---- numbers and what they stand for
@@ -55,7 +54,7 @@ out-is t l h = go (t .reply)
     go (Stop why) = ap (λ (s : Reason). stops s (take (t .state .setting .elements) (l .last))) (stop-back why)
 
 -- ---- an answer
-module _ (h : Held) (m : AnswerCall) (e : Met h m) (p : h .state .phase ≤ 2) where
+module _ (h : Held) (m : AnswerCall) (e : Met h m) (p : noRuns (h .state) ≡ false) where
   known : AnsweredIn (h .state) (argumentsOf m) (length (take (m .lent .history) (h .history))) (lentCore (m .lent) (h .lists)) (m .work) (m .step) (m .core) (m .worked)
   known = e .contract .known p
 
@@ -94,8 +93,8 @@ module _ (h : Held) (m : AnswerCall) (e : Met h m) (p : h .state .phase ≤ 2) w
       (λ i. record { state = (ap stateOf state-is ∙ state-passes (known .step .returned .state) .1) i; lists = listsOf (backCore (m .core) (h .lists)) (history-is i) })
       ∙ ap (worldAfter (worldOf h .lists)) result-is
 
-  phase-on : answered h m .state .phase ≤ 2
-  phase-on = subst (λ (s : RunState). s .phase ≤ 2) (sym state-is) (state-passes (known .step .returned .state) .0)
+  passes-on : noRuns (answered h m .state) ≡ false
+  passes-on = subst (λ (s : RunState). noRuns s ≡ false) (sym state-is) (state-passes (known .step .returned .state) .0)
 
   answer-out : outOf (m .step .returned) (m .core) ≡ callOut (resultOf (worldOf h) (callOf m))
   unfolding stepNumbers
@@ -105,28 +104,28 @@ left-is : (h : Held) → leftAt h ≡ callLeft (worldOf h)
 unfolding stateOf
 left-is h = refl
 
-from-is : (h : Held) (more : List AnswerCall) → h .state .phase ≤ 2 → AllMet h more → seenFrom h more ≡ callsFrom (worldOf h) (map callOf more)
+from-is : (h : Held) (more : List AnswerCall) → noRuns (h .state) ≡ false → AllMet h more → seenFrom h more ≡ callsFrom (worldOf h) (map callOf more)
 unfolding seenFrom callsFrom AllMet
 from-is h [] p a = refl
 from-is h (m ∷ more) p a =
     let w = world-is h m (a .0) p in
     let o = answer-out h m (a .0) p in
     let l = left-is (answered h m) ∙ ap callLeft w in
-    let t = from-is (answered h m) more (phase-on h m (a .0) p) (a .1) ∙ ap (λ (v : World). callsFrom v (map callOf more)) w in
+    let t = from-is (answered h m) more (passes-on h m (a .0) p) (a .1) ∙ ap (λ (v : World). callsFrom v (map callOf more)) w in
     λ i. record { out = o i; left = l i } ∷ t i
 
-shut-is : (h : Held) (more : List AnswerCall) → h .state .phase ≤ 2 → AllMet h more → seenShut h more ≡ callsShut (worldOf h) (map callOf more)
+shut-is : (h : Held) (more : List AnswerCall) → noRuns (h .state) ≡ false → AllMet h more → seenShut h more ≡ callsShut (worldOf h) (map callOf more)
 unfolding seenShut callsShut AllMet
 shut-is h [] p a = refl
 shut-is h (m ∷ more) p a =
     let w = world-is h m (a .0) p in
     let o = answer-out h m (a .0) p in
-    let t = shut-is (answered h m) more (phase-on h m (a .0) p) (a .1) ∙ ap (λ (v : World). callsShut v (map callOf more)) w in
+    let t = shut-is (answered h m) more (passes-on h m (a .0) p) (a .1) ∙ ap (λ (v : World). callsShut v (map callOf more)) w in
     λ i. record { out = o i; left = unopened } ∷ t i
 
 -- ---- an opening
-module _ (h : Held) (b : OpenCall) (e : MetOpen h b) (p : h .state .phase ≤ 2) where
-  begun : OpenedIn (h .state) (b .asked) (length (take (b .lent .history) (h .history))) (lentCore (b .lent) (h .lists)) (b .work) (b .returned) (b .core) (b .worked)
+module _ (h : Held) (b : OpenCall) (e : MetOpen h b) (p : (noRuns (h .state) || noGoals (b .goal)) ≡ false) where
+  begun : OpenedIn (h .state) (askedOf b) (length (take (b .lent .history) (h .history))) (lentCore (b .lent) (h .lists)) (b .work) (b .returned) (b .core) (b .worked)
   begun = e .contract .known p
 
   abbrev before : List Iteration
@@ -138,8 +137,8 @@ module _ (h : Held) (b : OpenCall) (e : MetOpen h b) (p : h .state .phase ≤ 2)
   abbrev first : Result
   first = record { state = begun .returned .state; reply = begun .returned .reply; lists = listsOf (b .core) before }
 
-  first-is : first ≡ openOf (stateOf (h .state)) (b .asked) (b .lent .work) (lend (b .lent) (worldOf h .lists))
-  first-is = begun .opens .same before before-long ∙ ap (λ (w : List ℕ). openOf (stateOf (h .state)) (b .asked) w (lend (b .lent) (worldOf h .lists))) (e .long)
+  first-is : first ≡ openOf (stateOf (h .state)) (askedOf b) (b .lent .work) (lend (b .lent) (worldOf h .lists))
+  first-is = begun .opens .same before before-long ∙ ap (λ (w : List ℕ). openOf (stateOf (h .state)) (askedOf b) w (lend (b .lent) (worldOf h .lists))) (e .long)
 
   first-state : b .returned .state ≡ stateNumbers (begun .returned .state)
   unfolding returnedNumbers
@@ -148,8 +147,8 @@ module _ (h : Held) (b : OpenCall) (e : MetOpen h b) (p : h .state .phase ≤ 2)
   first-world : worldOf (opened h b) ≡ worldAfter (worldOf h .lists) first
   first-world = λ i. record { state = (ap stateOf first-state ∙ state-passes (begun .returned .state) .1) i; lists = listsOf (backCore (b .core) (h .lists)) (sym (overlay-part (b .lent .history) (map recordOf (h .history))) i) }
 
-  first-phase : opened h b .state .phase ≤ 2
-  first-phase = subst (λ (s : RunState). s .phase ≤ 2) (sym first-state) (state-passes (begun .returned .state) .0)
+  first-passes : noRuns (opened h b .state) ≡ false
+  first-passes = subst (λ (s : RunState). noRuns s ≡ false) (sym first-state) (state-passes (begun .returned .state) .0)
 
   first-out : outOf (b .returned) (b .core) ≡ callOut first
   first-out = ap (λ (r : RunReturned). outOf r (b .core)) (begun .numbers) ∙ out-is (begun .returned) (b .core) before
@@ -162,25 +161,23 @@ module _ (h : Held) (b : OpenCall) (e : MetOpen h b) (p : h .state .phase ≤ 2)
     by-reply : (q : Reply) → choose (eqb (replyKind q) 0) (record { out = outOf (b .returned) (b .core); left = unopened } ∷ seenShut (opened h b) more) (record { out = outOf (b .returned) (b .core); left = leftAt (opened h b) } ∷ seenFrom (opened h b) more)
         ≡ callsBy (worldAfter (worldOf h .lists) first) (map callOf more) q (callOut first)
     unfolding choose
-    by-reply (Refused n) = λ i. record { out = first-out i; left = unopened } ∷ (shut-is (opened h b) more first-phase all ∙ ap (λ (v : World). callsShut v (map callOf more)) first-world) i
-    by-reply Solid = λ i. record { out = first-out i; left = (left-is (opened h b) ∙ ap callLeft first-world) i } ∷ (from-is (opened h b) more first-phase all ∙ ap (λ (v : World). callsFrom v (map callOf more)) first-world) i
-    by-reply (Round n) = λ i. record { out = first-out i; left = (left-is (opened h b) ∙ ap callLeft first-world) i } ∷ (from-is (opened h b) more first-phase all ∙ ap (λ (v : World). callsFrom v (map callOf more)) first-world) i
-    by-reply (Stop why) = λ i. record { out = first-out i; left = (left-is (opened h b) ∙ ap callLeft first-world) i } ∷ (from-is (opened h b) more first-phase all ∙ ap (λ (v : World). callsFrom v (map callOf more)) first-world) i
+    by-reply (Refused n) = λ i. record { out = first-out i; left = unopened } ∷ (shut-is (opened h b) more first-passes all ∙ ap (λ (v : World). callsShut v (map callOf more)) first-world) i
+    by-reply Solid = λ i. record { out = first-out i; left = (left-is (opened h b) ∙ ap callLeft first-world) i } ∷ (from-is (opened h b) more first-passes all ∙ ap (λ (v : World). callsFrom v (map callOf more)) first-world) i
+    by-reply (Round n) = λ i. record { out = first-out i; left = (left-is (opened h b) ∙ ap callLeft first-world) i } ∷ (from-is (opened h b) more first-passes all ∙ ap (λ (v : World). callsFrom v (map callOf more)) first-world) i
+    by-reply (Stop why) = λ i. record { out = first-out i; left = (left-is (opened h b) ∙ ap callLeft first-world) i } ∷ (from-is (opened h b) more first-passes all ∙ ap (λ (v : World). callsFrom v (map callOf more)) first-world) i
 
-    pub run-is : seenRun h b more ≡ callsRun (worldOf h) (b .lent) (b .asked) (map callOf more)
+    pub run-is : seenRun h b more ≡ callsRun (worldOf h) (b .lent) (askedOf b) (map callOf more)
     unfolding seenRun callsRun
     run-is =
         ap (λ (k : ℕ). choose (eqb k 0) (record { out = outOf (b .returned) (b .core); left = unopened } ∷ seenShut (opened h b) more) (record { out = outOf (b .returned) (b .core); left = leftAt (opened h b) } ∷ seenFrom (opened h b) more)) first-kind
         ∙ by-reply (begun .returned .reply)
         ∙ ap (λ (r : Result). callsBy (worldAfter (worldOf h .lists) r) (map callOf more) (r .reply) (callOut r)) first-is
 
--- ---- demand 3 of the calls over numbers: phase 0 is a state with no run open
+-- ---- demand 3 of the calls over numbers: phase 0 is a state with no run open, and the numbers are a run's and a goal's
 no-run : (s : RunState) → s .phase ≡ 0 → NoRun (stateOf s)
 unfolding stateOf phaseOf choose
 no-run s e = rw e
 
-pub demand-3-across : (h : Held) (b : OpenCall) (more : List AnswerCall) → h .state .phase ≡ 0 → MetOpen h b → AllMet (opened h b) more
-    → seenRun h b more ≡ plainRun (openingOf (b .asked) (b .lent .work) (lend (b .lent) (worldOf h .lists))) (map (fed (worldOf h .lists)) (map callOf more))
-demand-3-across h b more z m all =
-    let p : h .state .phase ≤ 2 = subst (λ (n : ℕ). n ≤ 2) (sym z) (omega arith) in
-    run-is h b m p more all ∙ demand (worldOf h) (b .lent) (b .asked) (map callOf more) (no-run (h .state) z) .same
+pub demand-3-across : (h : Held) (b : OpenCall) (more : List AnswerCall) → h .state .phase ≡ 0 → (noRuns (h .state) || noGoals (b .goal)) ≡ false → MetOpen h b → AllMet (opened h b) more
+    → seenRun h b more ≡ plainRun (openingOf (askedOf b) (b .lent .work) (lend (b .lent) (worldOf h .lists))) (map (fed (worldOf h .lists)) (map callOf more))
+demand-3-across h b more z p m all = run-is h b m p more all ∙ demand (worldOf h) (b .lent) (askedOf b) (map callOf more) (no-run (h .state) z) .same

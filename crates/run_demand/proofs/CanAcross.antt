@@ -1,8 +1,8 @@
 -- The premises of demand 3 across the boundary can be met: whatever is lent and told, there are numbers that meet the contract of `sokdrib_open`, and of `sokdrib_answer`. Assumes nothing.
 use mathlib.Core.Path.{_≡_, refl, sym, ap, _∙_}
+use mathlib.Core.Bool.{false, _||_}
 use mathlib.Core.List.{List, [], _∷_}
-use Prim.Native.Nat.{ℕ, suc, _≤_, _<_}
-use native.Mathlib.Nat.{not-le-of-lt}
+use Prim.Native.Nat.{ℕ, suc}
 use lib.ListN.{length, take, set}
 use Rattle.lists.specs.Lists.{choose}
 use Rattle.lists.proofs.Mapped.{set-past}
@@ -26,9 +26,10 @@ use Rattle.run_open_checks.specs.Opens.{Work as OpenWork, lengthsOf as openLeng
 use Rattle.c_numbers.specs.declared.RunState.{RunState}
 use Rattle.c_numbers.specs.declared.RunReturned.{RunReturned}
 use Rattle.c_numbers.specs.declared.RunStep.{RunStep}
-use Rattle.c_numbers.specs.Flat.{stateOf, returnedNumbers, recordNumbers, stepNumbers, OpenedAs, AnsweredAs}
+use Rattle.c_numbers.specs.Flat.{stateOf, returnedNumbers, recordNumbers, stepNumbers, noRuns, noGoals, OpenedAs, AnsweredAs}
+use Rattle.c_numbers.proofs.Laws.{not-both}
 use Rattle.run_demand.specs.Made.{coreOf}
-use Rattle.run_demand.specs.Across.{Held, lentCore, OpenCall, AnswerCall, argumentsOf, MetOpen, Met}
+use Rattle.run_demand.specs.Across.{Held, lentCore, OpenCall, AnswerCall, askedOf, argumentsOf, MetOpen, Met}
 use Rattle.run_demand.proofs.Can.{as-lent, leaves, open-left}
 
 -- ---- an answer: what it tells hangs on no record of the history, so it is that of the empty one
@@ -106,7 +107,7 @@ module _ (s : State) (g : Asked) (room : ℕ) (l : Core) (w : OpenWork) where
     work = open-left (length (l .volumes)) w (entryIn s g room l w);
   }
 
--- ---- as numbers, on a state as the calls leave it: the phase is at most 2
+-- ---- as numbers, on a state as the calls leave it and for a goal's number
 abbrev pub answerNumbers : Held → AnswerCall → AnswerCall
 answerNumbers h m =
     let room = length (take (m .lent .history) (h .history)) in
@@ -114,13 +115,13 @@ answerNumbers h m =
     let v = verdict (stateOf (h .state)) (argumentsOf m) room l (m .work) in
     record { lent = m .lent; heard = m .heard; energies = m .energies; work = m .work; step = stepNumbers (stepBy (stateOf (h .state)) (argumentsOf m) room l (m .work) v); core = coreOf (by (stateOf (h .state)) (argumentsOf m) room l (m .work) v .lists); worked = m .work }
 
-pub answer-can-across : (h : Held) (m : AnswerCall) → h .state .phase ≤ 2 → lengthsOf (m .work) ≡ m .lent .work → Met h (answerNumbers h m)
+pub answer-can-across : (h : Held) (m : AnswerCall) → noRuns (h .state) ≡ false → lengthsOf (m .work) ≡ m .lent .work → Met h (answerNumbers h m)
 answer-can-across h m p e =
     record {
       long = e;
       contract = record {
         known = λ q. record { step = _; numbers = refl; answers = answers-can (stateOf (h .state)) (argumentsOf m) (length (take (m .lent .history) (h .history))) (lentCore (m .lent) (h .lists)) (m .work) };
-        unknown = λ q. absurd (not-le-of-lt q p);
+        unknown = λ q. absurd (not-both q p);
       };
     }
 
@@ -128,14 +129,14 @@ abbrev pub openNumbers : Held → OpenCall → OpenCall
 openNumbers h b =
     let room = length (take (b .lent .history) (h .history)) in
     let l = lentCore (b .lent) (h .lists) in
-    record { lent = b .lent; asked = b .asked; work = b .work; returned = returnedNumbers (tells (stateOf (h .state)) (b .asked) room l (b .work)); core = coreOf (begun (stateOf (h .state)) (b .asked) room l (b .work) [] (stateOf (h .state) .phase) .lists); worked = leaves (b .work) (entryIn (stateOf (h .state)) (b .asked) room l (b .work)) }
+    record { lent = b .lent; centroids = b .centroids; mirrors = b .mirrors; goal = b .goal; flag = b .flag; work = b .work; returned = returnedNumbers (tells (stateOf (h .state)) (askedOf b) room l (b .work)); core = coreOf (begun (stateOf (h .state)) (askedOf b) room l (b .work) [] (stateOf (h .state) .phase) .lists); worked = leaves (b .work) (entryIn (stateOf (h .state)) (askedOf b) room l (b .work)) }
 
-pub open-can-across : (h : Held) (b : OpenCall) → h .state .phase ≤ 2 → openLengths (b .work) ≡ b .lent .work → MetOpen h (openNumbers h b)
+pub open-can-across : (h : Held) (b : OpenCall) → (noRuns (h .state) || noGoals (b .goal)) ≡ false → openLengths (b .work) ≡ b .lent .work → MetOpen h (openNumbers h b)
 open-can-across h b p e =
     record {
       long = e;
       contract = record {
-        known = λ q. record { returned = _; numbers = refl; opens = opened-can (stateOf (h .state)) (b .asked) (length (take (b .lent .history) (h .history))) (lentCore (b .lent) (h .lists)) (b .work) };
-        unknown = λ q. absurd (not-le-of-lt q p);
+        known = λ q. record { returned = _; numbers = refl; opens = opened-can (stateOf (h .state)) (askedOf b) (length (take (b .lent .history) (h .history))) (lentCore (b .lent) (h .lists)) (b .work) };
+        unknown = λ q. absurd (not-both q p);
       };
     }

@@ -76,6 +76,7 @@ demand-3 w b more h m all =
       same = seen ∙ d .same;
       opened-run = λ z. subst (OpenedRun (opening w b more)) (sym seen) (d .opened z);
       twenty = d .twenty;
+      full = d .full;
       made = λ z. d .made z ∙ ap (λ (v : World). recordedIn (take (v .state .progress .rounds) (v .lists .history))) (sym left);
       within = λ z. subst (WithinRun (opening w b more)) (sym (seen ∙ d .same)) (within-run (opening w b more) (answers w b more) z);
       ends = λ z q mq. ends-made _ q _ _ mq (subst (λ (v : World). EndsAt v (callOf q) (plainEnd w b more) (fed (w .lists) (callOf q))) (sym left) (d .ends z (callOf q)));

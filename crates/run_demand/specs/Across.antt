@@ -1,6 +1,7 @@
 -- Calls over numbers that a caller made, told by their contracts alone. The caller holds a state, the lists, and a history into which it puts the record that an
 -- answer tells, at the place that it tells. Definitions only.
 use mathlib.Core.Path.{_≡_}
+use mathlib.Core.Bool.{Bool}
 use mathlib.Core.List.{List, [], _∷_, map}
 use Prim.Native.Nat.{ℕ, suc}
 use lib.ListN.{length, take, set}
@@ -16,11 +17,12 @@ use Rattle.run_plain.specs.Calls.{Lists, listsOf, Core, Asked, Arguments, World
 use Rattle.run_answer.specs.Answers.{Work, lengthsOf}
 use Rattle.run_open_checks.specs.Opens.{Work as OpenWork, lengthsOf as openLengths}
 use Rattle.c_numbers.specs.declared.RunState.{RunState}
+use Rattle.c_numbers.specs.declared.RunGoal.{RunGoal}
 use Rattle.c_numbers.specs.declared.RunHeard.{RunHeard}
 use Rattle.c_numbers.specs.declared.RunReturned.{RunReturned}
 use Rattle.c_numbers.specs.declared.RunRecord.{RunRecord}
 use Rattle.c_numbers.specs.declared.RunStep.{RunStep}
-use Rattle.c_numbers.specs.Flat.{heardOf, stateOf, OpenedAs, AnsweredAs}
+use Rattle.c_numbers.specs.Flat.{goalOf, heardOf, stateOf, OpenedAs, AnsweredAs}
 
 pub record Held : Type 0 where
   pub state : RunState
@@ -46,7 +48,10 @@ backCore p l =
 -- a call of `sokdrib_open`, and of `sokdrib_answer`
 pub record OpenCall : Type 0 where
   pub lent : Sizes
-  pub asked : Asked
+  pub centroids : List (List Float)
+  pub mirrors : List (List Float)
+  pub goal : RunGoal
+  pub flag : Bool
   pub work : OpenWork
   pub returned : RunReturned
   pub core : Core
@@ -61,12 +66,15 @@ pub record AnswerCall : Type 0 where
   pub core : Core
   pub worked : Work
 
+abbrev pub askedOf : OpenCall → Asked
+askedOf b = record { centroids = b .centroids; mirrors = b .mirrors; goal = goalOf (b .goal); flag = b .flag }
+
 abbrev pub argumentsOf : AnswerCall → Arguments
 argumentsOf m = record { heard = heardOf (m .heard); energies = m .energies }
 
 pub record MetOpen (h : Held) (b : OpenCall) : Type 0 where
   pub long : openLengths (b .work) ≡ b .lent .work
-  pub contract : OpenedAs (h .state) (b .asked) (length (take (b .lent .history) (h .history))) (lentCore (b .lent) (h .lists)) (b .work) (b .returned) (b .core) (b .worked)
+  pub contract : OpenedAs (h .state) (b .goal) (askedOf b) (length (take (b .lent .history) (h .history))) (lentCore (b .lent) (h .lists)) (b .work) (b .returned) (b .core) (b .worked)
 
 pub record Met (h : Held) (m : AnswerCall) : Type 0 where
   pub long : lengthsOf (m .work) ≡ m .lent .work

@@ -5,11 +5,12 @@ use mathlib.Core.Bool.{false}
 use mathlib.Core.List.{List, map}
 use Prim.Native.Nat.{_≤_}
 use lib.ListN.{take}
+use Rattle.topo.specs.declared.Sharpening.the-variants.{Full}
 use Rattle.run_plain.specs.declared.Entry.the-variants.{Opens}
 use Rattle.run_plain.specs.Formulas.{Steep}
 use Rattle.run_plain.specs.Opening.{Opening, entryOf}
 use Rattle.run_plain.specs.Plain.{Out, Answer, Run, sharpest, plainRun, plainStart, runFrom}
-use Rattle.run_plain.specs.Runs.{roundsBegun, times, Ended, made as madeIn, recordedIn}
+use Rattle.run_plain.specs.Runs.{roundsBegun, times, FullFrom, Ended, made as madeIn, recordedIn}
 use Rattle.run_plain.specs.Calls.{World, openingOf, lend, outOf, fed, NoRun}
 use Rattle.run_plain.specs.Demand.{OpenedRun, Stands}
 use Rattle.run_bounds.specs.Bounds.{WithinRun}
@@ -44,6 +45,8 @@ module _ (w : World) (b : MadeOpen) (more : List Made) where
     pub opened-run : entryOf opening ≡ Opens → OpenedRun opening (seenRun w b more)
     -- the 20 rounds, of all that are begun: "A round begins when its question goes out."
     pub twenty : entryOf opening ≡ Opens → (d : Steep) → sharpest (opening .goal .sharpen) d ≡ false → times d (roundsBegun (plainStart opening) answers) ≤ 20
+    -- 02, "Full stages": "the promise of at most 20 becomes exactly 20 and round 81, if it is reached, is the first at 16". Of the records it is in `opened-run`
+    pub full : entryOf opening ≡ Opens → opening .goal .sharpen ≡ Full → FullFrom 1 (roundsBegun (plainStart opening) answers)
     -- "makes just the reckonings in its records"
     pub made : entryOf opening ≡ Opens → madeIn (plainStart opening) answers ≡ recordedIn (take (held .state .progress .rounds) (held .lists .history))
     -- "After each update held elements are 1 and free ones lie from 0.001 to 1, within the round's move as 01 rounds it."

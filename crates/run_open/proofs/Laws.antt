@@ -27,7 +27,7 @@ use Rattle.run_plain.specs.declared.Returned.{Returned}
 use Rattle.run_open_checks.specs.Opens.{Work, openingIn, Left, CoreOpened}
 use Rattle.run_open_checks.proofs.Opens.{kept-law, zeroed-law, shut-law, opens-law}
 use Rattle.run_open_checks.proofs.Outcome.{entry-kept, entry-zeroed, entry-last, passed, not-short, outcome-is}
-use Rattle.run_open.specs.Steps.{Lastly, ShutBy, BegunBy}
+use Rattle.run_open_last.specs.Steps.{Lastly, ShutBy, BegunBy}
 
 -- the lists of a build
 abbrev pub lentOf : List ℕ → List ℕ → List Float → Work → Lent

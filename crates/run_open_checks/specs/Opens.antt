@@ -6,12 +6,13 @@ use lib.ListN.{length}
 use lib.Ieee.{Float}
 use Rattle.lists.specs.Lists.{choose, zero64}
 use Rattle.topo.specs.declared.Iteration.{Iteration}
+use Rattle.lent.specs.Lent.{Outcome, kept, zeroed, done, Worked}
 use Rattle.filter.specs.Build.{words}
 use Rattle.run_plain.specs.declared.State.{State}
 use Rattle.run_plain.specs.declared.Entry.{Entry}
-use Rattle.run_plain.specs.declared.Entry.the-variants.{Kept}
+use Rattle.run_plain.specs.declared.Entry.the-variants.{Kept, Zeroed, Shut, Opens}
 use Rattle.run_plain.specs.Opening.{Opening, entryOf}
-use Rattle.run_plain.specs.Calls.{Core, Asked, Result, listsOf, sizesIn, openOf, workBy, inTurn}
+use Rattle.run_plain.specs.Calls.{Core, Asked, Result, listsOf, sizesIn, openOf, inTurn}
 use Rattle.run_plain.specs.declared.Returned.{Returned}
 
 -- the working lists: the filter's
@@ -45,16 +46,23 @@ openingIn g room l w =
 abbrev pub entryIn : State → Asked → ℕ → Core → Work → Entry
 entryIn s g room l w = choose (inTurn (s .phase)) (entryOf (openingIn g room l w)) (Kept 20)
 
+-- "Last it looks at the flag: 15 then leaves the finished filter in its lists and the working lists zero."
+abbrev pub outcomeOf : Entry → Outcome
+outcomeOf (Kept k) = kept k
+outcomeOf (Zeroed k) = zeroed k
+outcomeOf Shut = zeroed 15
+outcomeOf Opens = done
+
 -- what is left in each working list
 pub record Left (n : ℕ) (w w′ : Work) (v : Entry) : Type 0 where
-  pub cell : workBy (0 ∷ 0 ∷ 0 ∷ []) n (w .cell) (w′ .cell) v
-  pub order : workBy 0 n (w .order) (w′ .order) v
-  pub first : workBy 0 (suc n) (w .first) (w′ .first) v
-  pub sorted : workBy (zero64 ∷ zero64 ∷ zero64 ∷ []) n (w .sorted) (w′ .sorted) v
-  pub stamp : workBy 0 n (w .stamp) (w′ .stamp) v
-  pub weight : workBy zero64 n (w .weight) (w′ .weight) v
-  pub found : workBy 0 n (w .found) (w′ .found) v
-  pub bits : workBy 0 words (w .bits) (w′ .bits) v
+  pub cell : Worked (outcomeOf v) n (0 ∷ 0 ∷ 0 ∷ []) (w .cell) (w′ .cell)
+  pub order : Worked (outcomeOf v) n 0 (w .order) (w′ .order)
+  pub first : Worked (outcomeOf v) (suc n) 0 (w .first) (w′ .first)
+  pub sorted : Worked (outcomeOf v) n (zero64 ∷ zero64 ∷ zero64 ∷ []) (w .sorted) (w′ .sorted)
+  pub stamp : Worked (outcomeOf v) n 0 (w .stamp) (w′ .stamp)
+  pub weight : Worked (outcomeOf v) n zero64 (w .weight) (w′ .weight)
+  pub found : Worked (outcomeOf v) n 0 (w .found) (w′ .found)
+  pub bits : Worked (outcomeOf v) words 0 (w .bits) (w′ .bits)
 
 -- for every history of `room` records, which an opening leaves as it is: what the core returns and leaves is what an opening does
 pub record CoreOpened (s : State) (g : Asked) (room : ℕ) (l : Core) (w : Work) (r : Returned) (o : Core) (w′ : Work) : Type 0 where

@@ -183,13 +183,14 @@ pub fn begin(goal: Goal, volumes: &[f64], passive: &[bool], design: &mut [f64])
 pub fn opened_state(goal: Goal, elements: usize, entries: usize) -> State
     ensures { λ r. ⌜ r ≡ openedState goal elements entries ⌝ }
 {
+    let sharpen = goal.sharpen;
     State {
         phase: Phase::Solid,
         setting: Setting {
             elements,
             entries,
             fraction: goal.fraction,
-            sharpen: goal.sharpen,
+            sharpen,
             max_iterations: goal.max_iterations,
             project_at: goal.project_at,
         },

@@ -11,12 +11,14 @@ use borrow.Author.Tests.{lt-ltb, le-leb, eq-eqb}
 use Rattle.lists.specs.Lists.{choose, overlay}
 use Rattle.lists.proofs.Bools.{and-true}
 use Rattle.topo.specs.declared.Iteration.{Iteration}
+use Rattle.topo.specs.declared.Sharpening.{Sharpening}
+use Rattle.topo.specs.Stages.{sharpens}
 use Rattle.oc_record.specs.Record.{complianceOf}
 use Rattle.run_plain.specs.declared.Phase.{Phase}
 use Rattle.run_plain.specs.declared.Phase.the-variants.{Idle, Solid, Round}
 use Rattle.run_plain.specs.declared.State.{State}
 use Rattle.run_plain.specs.Lent.{Sizes, answerShort}
-use Rattle.run_plain.specs.Formulas.{Steep, Case, updateAt, recordAt, notFinite, idle, small}
+use Rattle.run_plain.specs.Formulas.{Steep, updateAt, recordAt, notFinite, idle, small}
 use Rattle.run_plain.specs.Opening.{elements, nearOf, caseOf}
 use Rattle.run_plain.specs.Plain.{Part, nothing, solid, round, Row, inOrder, Checks, stageOf, sharpest, steadyRun, Run, Step, ended, askedOf, updated, stopsOf, checksOf}
 use Rattle.run_plain.specs.Calls.{endedOf, Lists, Arguments, Result, sizesOf, steepAt, inRange, soundIn, sound, partIn, partOf, caseFrom, checksAt, designIn, densityIn, updateIn, recordIn, steadyAt, stopsAt, writtenLists, lend, giveBack, Call, outOf, fed}
@@ -46,6 +48,7 @@ pub record Sim (l₀ : Lists) (r : Run) (s : State) (l : Lists) : Type 0 where
   pub entries : s .setting .entries ≡ length (nearOf (r .given))
   pub limit : s .setting .«max_iterations» ≡ r .given .goal .«max_iterations»
   pub sizes : sizesOf [] l ≡ sizesOf [] l₀
+  pub sharpen : s .setting .sharpen ≡ r .given .goal .sharpen
   pub case : caseFrom s l ≡ caseOf (r .given)
   pub design : designIn s l ≡ r .design
   pub asked : AskedFits (r .part) (densityIn s l) (askedOf r)
@@ -57,7 +60,7 @@ pub record Sim (l₀ : Lists) (r : Run) (s : State) (l : Lists) : Type 0 where
   pub climbs : Climbs (r .steep) (r .rows)
 
 -- ---- the part and the checks are the same
-in-range : (s : State) (f : Bool) (b : Steep) (rows : List Row) → s .setting .elements ≤ 65535 → Running f b rows s → inRange s ≡ true
+in-range : (s : State) (f : Sharpening) (b : Steep) (rows : List Row) → s .setting .elements ≤ 65535 → Running f b rows s → inRange s ≡ true
 unfolding inRange
 in-range s f b rows h r =
     let m : stageOf b ≤ 4 = stage-most b in
@@ -171,7 +174,7 @@ sizes-back l l₀ design density last history e a b c d =
 pub sim-ended : (l₀ : Lists) (r : Run) (s : State) (l : Lists) → Sim l₀ r s l → Sim l₀ (ended r) (endedOf s) l
 unfolding caseFrom
 sim-ended l₀ r s l m =
-    record { ready = m .ready; elements = m .elements; entries = m .entries; limit = m .limit; sizes = m .sizes; case = m .case; design = m .design; asked = tt; last = m .last; rounds = m .rounds; history = m .history; solidWork = m .solidWork; fits = refl; climbs = m .climbs }
+    record { ready = m .ready; elements = m .elements; entries = m .entries; limit = m .limit; sizes = m .sizes; sharpen = m .sharpen; case = m .case; design = m .design; asked = tt; last = m .last; rounds = m .rounds; history = m .history; solidWork = m .solidWork; fits = refl; climbs = m .climbs }
 
 -- ---- what a call reads is what the plain run has
 -- a part that is long enough has what the formulas read
@@ -185,7 +188,7 @@ lent-case s k l h =
       near = take-part (s .setting .entries) (k .near) (l .near) (h .near) i;
       coef = take-part (s .setting .entries) (k .coef) (l .coef) (h .coef) i;
       fraction = s .setting .fraction;
-      sharpen = s .setting .sharpen;
+      sharpen = sharpens (s .setting .sharpen);
       projectAt = s .setting .«project_at»;
     }
 
@@ -195,10 +198,6 @@ pub record Reads (r : Run) (s : State) (l : Lists) : Type 0 where
   pub design : designIn s l ≡ r .design
   pub long : length (r .design) ≡ s .setting .elements
   pub sharpen : s .setting .sharpen ≡ r .given .goal .sharpen
-
-sharpen-is : (r : Run) (s : State) (l : Lists) → caseFrom s l ≡ caseOf (r .given) → s .setting .sharpen ≡ r .given .goal .sharpen
-unfolding caseFrom caseOf
-sharpen-is r s l e = ap (λ (c : Case). c .sharpen) e
 
 pub reads : (l₀ : Lists) (r : Run) (s : State) (k : Sizes) (l : Lists) → Sim l₀ r s l → Suffices s k l → s .progress .stage ≡ stageOf (r .steep) → Reads r s (lend k l)
 reads l₀ r s k l m h e =
@@ -210,7 +209,7 @@ reads l₀ r s k l m h e =
       steep = steep-at s (r .steep) e;
       design = d ∙ m .design;
       long = sym (ap length (d ∙ m .design)) ∙ omega arith;
-      sharpen = sharpen-is r s l (m .case);
+      sharpen = m .sharpen;
     }
 
 -- a round's record and design are the plain run's

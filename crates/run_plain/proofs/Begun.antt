@@ -1,4 +1,4 @@
--- "at most 20 rounds at each steepness below 16", of the rounds begun: a round is begun only where fewer than 20 stand at its steepness. By induction on the answers. Assumes nothing.
+-- "at most 20 rounds at each steepness below 16", of the rounds begun: a round is begun only where fewer than 20 stand at its steepness; and with full stages each round begun is at the steepness of its number. By induction on the answers. Assumes nothing.
 use mathlib.Core.Path.{_≡_, refl, sym, ap, _∙_, subst}
 use mathlib.Core.Bool.{Bool, true, false}
 use mathlib.Core.List.{List, [], _∷_, _++_}
@@ -6,6 +6,7 @@ use Prim.Native.Nat.{ℕ, suc, _+_, _≤_, _<_}
 use native.Mathlib.Omega.{arith}
 use lib.ListN.{length}
 use Rattle.lists.specs.Lists.{choose}
+use Rattle.topo.specs.declared.Sharpening.the-variants.{Full}
 use Rattle.run_plain.specs.declared.Verdict.{Verdict}
 use Rattle.run_plain.specs.declared.Verdict.the-variants.{Kept, Over, Halts, Begins, Solves}
 use Rattle.run_plain.specs.declared.Course.{Course}
@@ -14,11 +15,11 @@ use Rattle.run_plain.specs.declared.Entry.the-variants.{Opens}
 use Rattle.run_plain.specs.Formulas.{Steep, recordAt}
 use Rattle.run_plain.specs.Opening.{Opening, entryOf, caseOf}
 use Rattle.run_plain.specs.Plain.{Answer, Part, nothing, solid, round, Row, judged, firstStop, same, sharpest, countAt, Run, plainStart, askedOf, updated, stopsOf, onward, checksOf, after, answered}
-use Rattle.run_plain.specs.Runs.{begunBy, roundsBegun, times}
+use Rattle.run_plain.specs.Runs.{begunBy, roundsBegun, times, fullSteep, FullFrom}
 use Rattle.run_plain.proofs.Formulas.{ready}
 use Rattle.run_plain.proofs.Counts.{same-true}
 use Rattle.run_plain.proofs.Verdicts.{Told-of, told}
-use Rattle.run_plain.proofs.Keeps.{Keeps, Here, keeps-on, keeps-start}
+use Rattle.run_plain.proofs.Keeps.{Keeps, Here, full-at, keeps-after, keeps-on, keeps-start}
 use Rattle.run_plain.proofs.Runs.{given-kept}
 
 -- 1 for a round at the steepness d, 0 for one at another
@@ -111,3 +112,53 @@ begun-from d r (a ∷ late) c k t b =
 -- of an opened run
 pub begun-twenty : (o : Opening) (late : List Answer) → entryOf o ≡ Opens → (d : Steep) → sharpest (o .goal .sharpen) d ≡ false → times d (roundsBegun (plainStart o) late) ≤ 20
 begun-twenty o late e d t = let h = begun-from d (plainStart o) late 0 (keeps-start o (ready o e)) t refl in omega arith
+
+-- ---- full stages
+-- the rounds that are still to begin, by the part asked for
+abbrev Coming : Part → List Steep → Type 0
+Coming nothing l = l ≡ []
+Coming solid l = FullFrom 1 l
+Coming (round n) l = FullFrom (suc n) l
+
+coming-none : (p : Part) (l : List Steep) → l ≡ [] → Coming p l
+unfolding FullFrom
+coming-none nothing l e = e
+coming-none solid l e = subst (FullFrom 1) (sym e) tt
+coming-none (round n) l e = subst (FullFrom (suc n)) (sym e) tt
+
+coming-onward : (r : Run) (a : Answer) (n : ℕ) → Keeps r → r .part ≡ round n → (v : Course) → Keeps (onward (updated r (a .energies)) v .run) → r .given .goal .sharpen ≡ Full → (l : List Steep)
+    → Coming (onward (updated r (a .energies)) v .run .part) l
+    → Coming (r .part) (begunBy (onward (updated r (a .energies)) v .out) (onward (updated r (a .energies)) v .run .steep) ++ l)
+unfolding FullFrom
+coming-onward r a n k p (Ends why) k′ e l h = coming-none (r .part) l h
+coming-onward r a n k p Onward k′ e l h =
+    let q : r .part ≡ round (suc (length (r .rows))) = p ∙ ap round (subst (λ (x : Part). Here x r) p (k .here) .0) in
+    let s : onward (updated r (a .energies)) Onward .run .steep ≡ fullSteep (suc (suc (length (r .rows)))) = full-at _ _ _ (k′ .full) (k′ .here .2) e in
+    subst (λ (x : Part). Coming x (onward (updated r (a .energies)) Onward .run .steep ∷ l)) (sym q) (s, h)
+
+coming-after : (r : Run) (a : Answer) → Keeps r → (v : Verdict) → Told-of v (r .part) (checksOf r a) → r .given .goal .sharpen ≡ Full → (l : List Steep) → Coming (after r a v .run .part) l
+    → Coming (r .part) (begunBy (after r a v .out) (after r a v .run .steep) ++ l)
+unfolding FullFrom
+coming-after r a k (Kept n) t e l h = h
+coming-after r a k (Over n) t e l h = coming-none (r .part) l h
+coming-after r a k Halts t e l h = coming-none (r .part) l h
+coming-after r a k Begins t e l h =
+    let u : (r .rows ≡ []) × (sharpest (r .given .goal .sharpen) (r .steep) ≡ false → countAt (r .steep) (r .rows) < 20) = subst (λ (x : Part). Here x r) (t .1) (k .here) in
+    let s : r .steep ≡ fullSteep 1 = full-at _ _ _ (k .full) (u .1) e ∙ ap (λ (rows : List Row). fullSteep (suc (length rows))) (u .0) in
+    subst (λ (x : Part). Coming x (r .steep ∷ l)) (sym (t .1)) (s, h)
+coming-after r a k Solves t e l h =
+    coming-onward r a (t .1) k (t .2) (firstStop (stopsOf (updated r (a .energies)) a)) (keeps-after r a k Solves t) e l h
+
+coming-on : (r : Run) (a : Answer) (l : List Steep) → Keeps r → r .given .goal .sharpen ≡ Full → Coming (answered r a .run .part) l
+    → Coming (r .part) (begunBy (answered r a .out) (answered r a .run .steep) ++ l)
+unfolding answered
+coming-on r a l k e h = coming-after r a k (judged (r .part) (checksOf r a)) (told (r .part) (checksOf r a)) e l h
+
+coming-from : (r : Run) (late : List Answer) → Keeps r → r .given .goal .sharpen ≡ Full → Coming (r .part) (roundsBegun r late)
+unfolding roundsBegun
+coming-from r [] k e = coming-none (r .part) [] refl
+coming-from r (a ∷ late) k e =
+    coming-on r a (roundsBegun (answered r a .run) late) k e (coming-from (answered r a .run) late (keeps-on r a k) (ap (λ (o : Opening). o .goal .sharpen) (given-kept r a) ∙ e))
+
+pub begun-full : (o : Opening) (late : List Answer) → entryOf o ≡ Opens → o .goal .sharpen ≡ Full → FullFrom 1 (roundsBegun (plainStart o) late)
+begun-full o late e f = coming-from (plainStart o) late (keeps-start o (ready o e)) f

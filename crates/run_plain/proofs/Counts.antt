@@ -9,7 +9,10 @@ use lib.Ieee.{Float}
 use borrow.Author.Tests.{leb-false, lt-ltb, eq-eqb, ne-eqb, eqb-true}
 use Rattle.lists.specs.Lists.{choose}
 use Rattle.topo.specs.declared.Iteration.{Iteration}
+use Rattle.topo.specs.declared.Sharpening.{Sharpening}
+use Rattle.topo.specs.declared.Sharpening.the-variants.{Off, Early, Full}
 use Rattle.topo.specs.declared.Stop.{Stop}
+use Rattle.topo.specs.Stages.{early}
 use Rattle.run_plain.specs.declared.Course.{Course}
 use Rattle.run_plain.specs.declared.Course.the-variants.{Onward, Ends}
 use Rattle.run_plain.specs.declared.State.{State}
@@ -41,14 +44,15 @@ unfolding same
 same-not a b h = ne-eqb (stageOf a) (stageOf b) h
 
 -- below 16 the next is one stage on
-pub next-stage : (sharpen : Bool) (b : Steep) → sharpest sharpen b ≡ false → stageOf (next b) ≡ suc (stageOf b)
+pub next-stage : (sharpen : Sharpening) (b : Steep) → sharpest sharpen b ≡ false → stageOf (next b) ≡ suc (stageOf b)
 unfolding sharpest same
 next-stage sharpen s1 e = refl
 next-stage sharpen s2 e = refl
 next-stage sharpen s4 e = refl
 next-stage sharpen s8 e = refl
-next-stage true s16 e = absurd (let z : _≡_ {A = ℕ} 0 1 = cc in omega arith)
-next-stage false s16 e = absurd (let z : _≡_ {A = ℕ} 0 1 = cc in omega arith)
+next-stage Off s16 e = absurd (let z : _≡_ {A = ℕ} 0 1 = cc in omega arith)
+next-stage Early s16 e = absurd (let z : _≡_ {A = ℕ} 0 1 = cc in omega arith)
+next-stage Full s16 e = absurd (let z : _≡_ {A = ℕ} 0 1 = cc in omega arith)
 
 -- no round yet at a later steepness
 pub record Climbs (b : Steep) (rows : List Row) : Type 0 where
@@ -65,34 +69,39 @@ pub count-other : (d b : Steep) (e : Iteration) (rows : List Row) → (stageOf d
 unfolding countAt choose
 count-other d b e rows h = rw (same-not d b h)
 
--- how a round changes the steepness: 16 or unsharpened, moved on, or not due
-pub data Moved (sharpen : Bool) (b : Steep) (rows : List Row) : Steep → Type 0 where
+-- how a round changes the steepness: 16 or unsharpened, moved on (by 20 rounds alone, unless a small change counts), or not due
+pub data Moved (sharpen : Sharpening) (b : Steep) (rows : List Row) : Steep → Type 0 where
   top : sharpest sharpen b ≡ true → Moved sharpen b rows b
-  moves : sharpest sharpen b ≡ false → Moved sharpen b rows (next b)
+  moves : sharpest sharpen b ≡ false → (early sharpen ≡ false → leb 20 (countAt b rows) ≡ true) → Moved sharpen b rows (next b)
   stays : sharpest sharpen b ≡ false → leb 20 (countAt b rows) ≡ false → Moved sharpen b rows b
 
 either-false : (a b : Bool) → (a || b) ≡ false → a ≡ false
 either-false true b e = absurd (let z : _≡_ {A = ℕ} 0 1 = cc in omega arith)
 either-false false b e = refl
 
-pub moved : (sharpen : Bool) (b : Steep) (rows : List Row) → Moved sharpen b rows (dueSteep sharpen b rows)
+by-count : (a y c : Bool) → (a || (y && c)) ≡ true → y ≡ false → a ≡ true
+by-count true y c e h = refl
+by-count false true c e h = absurd (let z : _≡_ {A = ℕ} 0 1 = cc in omega arith)
+by-count false false c e h = e
+
+pub moved : (sharpen : Sharpening) (b : Steep) (rows : List Row) → Moved sharpen b rows (dueSteep sharpen b rows)
 unfolding dueSteep choose
-moved sharpen b rows = go (sharpest sharpen b) refl (leb 20 (countAt b rows) || newestChange rows) refl
+moved sharpen b rows = go (sharpest sharpen b) refl (leb 20 (countAt b rows) || (early sharpen && newestChange rows)) refl
   where
-    go : (t : Bool) → sharpest sharpen b ≡ t → (d : Bool) → (leb 20 (countAt b rows) || newestChange rows) ≡ d → Moved sharpen b rows (choose t b (choose d (next b) b))
+    go : (t : Bool) → sharpest sharpen b ≡ t → (d : Bool) → (leb 20 (countAt b rows) || (early sharpen && newestChange rows)) ≡ d → Moved sharpen b rows (choose t b (choose d (next b) b))
     go true e d q = top e
-    go false e true q = moves e
+    go false e true q = moves e (by-count _ _ _ q)
     go false e false q = stays e (either-false _ _ q)
 
-pub climbs-on : (sharpen : Bool) (b b′ : Steep) (e : Iteration) (rows : List Row) → Climbs b rows → Moved sharpen b (rowOf b e ∷ rows) b′ → Climbs b′ (rowOf b e ∷ rows)
+pub climbs-on : (sharpen : Sharpening) (b b′ : Steep) (e : Iteration) (rows : List Row) → Climbs b rows → Moved sharpen b (rowOf b e ∷ rows) b′ → Climbs b′ (rowOf b e ∷ rows)
 climbs-on sharpen b b′ e rows c (top t) = record { later = λ d h. count-other d b e rows (omega arith) ∙ c .later d h }
-climbs-on sharpen b b′ e rows c (moves t) =
+climbs-on sharpen b b′ e rows c (moves t f) =
     let n : stageOf (next b) ≡ suc (stageOf b) = next-stage sharpen b t in
     record { later = λ d h. count-other d b e rows (omega arith) ∙ c .later d (omega arith) }
 climbs-on sharpen b b′ e rows c (stays t q) = record { later = λ d h. count-other d b e rows (omega arith) ∙ c .later d h }
 
 -- ---- the counts
-pub record Running (sharpen : Bool) (b : Steep) (rows : List Row) (s : State) : Type 0 where
+pub record Running (sharpen : Sharpening) (b : Steep) (rows : List Row) (s : State) : Type 0 where
   pub stage : s .progress .stage ≡ stageOf b
   pub turns : s .progress .«at_stage» ≡ choose (sharpest sharpen b) 0 (countAt b rows)
   pub few : s .progress .«at_stage» < 20
@@ -104,7 +113,7 @@ pub steep-at : (s : State) (b : Steep) → s .progress .stage ≡ stageOf b → 
 steep-at s b e = rw e (steep-stage b)
 
 -- the steady count of the state, with a record more, is that of the records
-pub steady-on : (sharpen : Bool) (b : Steep) (e : Iteration) (rows : List Row) (s : State) → s .setting .sharpen ≡ sharpen → Running sharpen b rows s
+pub steady-on : (sharpen : Sharpening) (b : Steep) (e : Iteration) (rows : List Row) (s : State) → s .setting .sharpen ≡ sharpen → Running sharpen b rows s
     → steadyAt s (e .compliance) ≡ steadyRun sharpen (rowOf b e ∷ rows)
 unfolding steadyAt steadyRun
 steady-on sharpen b e rows s h r = rw (r .before (e .compliance), steep-at s b (r .stage), r .steady, h)
@@ -143,18 +152,18 @@ calm-on false lv n m g q = omega arith
 
 -- ---- a round more
 -- the stage and the turns after it, by how the steepness moved
-pub record Counted (sharpen : Bool) (b′ : Steep) (rows : List Row) (m n : ℕ) : Type 0 where
+pub record Counted (sharpen : Sharpening) (b′ : Steep) (rows : List Row) (m n : ℕ) : Type 0 where
   pub stage : m ≡ stageOf b′
   pub turns : n ≡ choose (sharpest sharpen b′) 0 (countAt b′ rows)
   pub few : n < 20
 
-onward : (sharpen : Bool) (b : Steep) (rows : List Row) (e : Iteration) (stage turns : ℕ) → Climbs b rows → stage ≡ stageOf b → turns ≡ choose (sharpest sharpen b) 0 (countAt b rows)
-    → (t d : Bool) → sharpest sharpen b ≡ t → (leb 20 (suc turns) || small (e .change)) ≡ d
-    → (d′ : Bool) → (leb 20 (countAt b (rowOf b e ∷ rows)) || small (e .change)) ≡ d′
+onward : (sharpen : Sharpening) (b : Steep) (rows : List Row) (e : Iteration) (y : Bool) (stage turns : ℕ) → Climbs b rows → stage ≡ stageOf b → turns ≡ choose (sharpest sharpen b) 0 (countAt b rows)
+    → (t d : Bool) → sharpest sharpen b ≡ t → (leb 20 (suc turns) || y) ≡ d
+    → (d′ : Bool) → (leb 20 (countAt b (rowOf b e ∷ rows)) || y) ≡ d′
     → Counted sharpen (choose t b (choose d′ (next b) b)) (rowOf b e ∷ rows) (choose t stage (choose d (suc stage) stage)) (choose t 0 (choose d 0 (suc turns)))
 unfolding choose
-onward sharpen b rows e stage turns c hs ht true d et ed d′ ed′ = record { stage = hs; turns = rw et; few = omega arith }
-onward sharpen b rows e stage turns c hs ht false true et ed true ed′ =
+onward sharpen b rows e y stage turns c hs ht true d et ed d′ ed′ = record { stage = hs; turns = rw et; few = omega arith }
+onward sharpen b rows e y stage turns c hs ht false true et ed true ed′ =
     let n : stageOf (next b) ≡ suc (stageOf b) = next-stage sharpen b et in
     let z : countAt (next b) (rowOf b e ∷ rows) ≡ 0 = count-other (next b) b e rows (omega arith) ∙ c .later (next b) (omega arith) in
     record { stage = omega arith; turns = none-of (sharpest sharpen (next b)) z; few = omega arith }
@@ -162,28 +171,28 @@ onward sharpen b rows e stage turns c hs ht false true et ed true ed′ =
     none-of : (t : Bool) → countAt (next b) (rowOf b e ∷ rows) ≡ 0 → 0 ≡ choose t 0 (countAt (next b) (rowOf b e ∷ rows))
     none-of true z = refl
     none-of false z = sym z
-onward sharpen b rows e stage turns c hs ht false false et ed false ed′ =
+onward sharpen b rows e y stage turns c hs ht false false et ed false ed′ =
     let f : turns ≡ countAt b rows = rw et at ht in
     let k : countAt b (rowOf b e ∷ rows) ≡ suc (countAt b rows) = count-here b e rows in
     let m : suc turns < 20 = leb-false _ _ (either-false _ _ ed) in
     record { stage = hs; turns = rw et (omega arith); few = m }
-onward sharpen b rows e stage turns c hs ht false true et ed false ed′ =
+onward sharpen b rows e y stage turns c hs ht false true et ed false ed′ =
     let f : turns ≡ countAt b rows = rw et at ht in
     let k : countAt b (rowOf b e ∷ rows) ≡ suc (countAt b rows) = count-here b e rows in
     absurd (let z : _≡_ {A = ℕ} 0 1 = cc in omega arith)
-onward sharpen b rows e stage turns c hs ht false false et ed true ed′ =
+onward sharpen b rows e y stage turns c hs ht false false et ed true ed′ =
     let f : turns ≡ countAt b rows = rw et at ht in
     let k : countAt b (rowOf b e ∷ rows) ≡ suc (countAt b rows) = count-here b e rows in
     absurd (let z : _≡_ {A = ℕ} 0 1 = cc in omega arith)
 
-pub onward-at : (sharpen : Bool) (b : Steep) (rows : List Row) (e : Iteration) (s : State) → s .setting .sharpen ≡ sharpen → Climbs b rows → Running sharpen b rows s
+pub onward-at : (sharpen : Sharpening) (b : Steep) (rows : List Row) (e : Iteration) (s : State) → s .setting .sharpen ≡ sharpen → Climbs b rows → Running sharpen b rows s
     → Counted sharpen (dueSteep sharpen b (rowOf b e ∷ rows)) (rowOf b e ∷ rows) (stageAfter s e) (turnsAfter s e)
 unfolding stageAfter turnsAfter dueAt dueSteep
 onward-at sharpen b rows e s h c r =
-    rw (steep-at s b (r .stage), h) (onward sharpen b rows e (s .progress .stage) (s .progress .«at_stage») c (r .stage) (r .turns) (sharpest sharpen b) _ refl refl _ refl)
+    rw (steep-at s b (r .stage), h) (onward sharpen b rows e (early sharpen && small (e .change)) (s .progress .stage) (s .progress .«at_stage») c (r .stage) (r .turns) (sharpest sharpen b) _ refl refl _ refl)
 
 -- the counts of a state after a round that does not stop
-pub running-on : (sharpen : Bool) (b : Steep) (rows : List Row) (e : Iteration) (s : State) → s .setting .sharpen ≡ sharpen → Climbs b rows → Running sharpen b rows s
+pub running-on : (sharpen : Sharpening) (b : Steep) (rows : List Row) (e : Iteration) (s : State) → s .setting .sharpen ≡ sharpen → Climbs b rows → Running sharpen b rows s
     → (sharpest sharpen b && leb 5 (steadyAt s (e .compliance))) ≡ false
     → Running sharpen (dueSteep sharpen b (rowOf b e ∷ rows)) (rowOf b e ∷ rows) (onwardState s e)
 unfolding levelAt levelWith choose steadyRun

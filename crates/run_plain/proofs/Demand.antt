@@ -12,7 +12,7 @@ use Rattle.run_plain.specs.Calls.{Lists, Arguments, Result, sizesOf, par
 use Rattle.run_plain.specs.Demand.{OpenedRun, AnyPart, Demand}
 use Rattle.run_plain.proofs.Whole.{whole, opened-stands, refused-stands}
 use Rattle.run_plain.proofs.Runs.{opened-run}
-use Rattle.run_plain.proofs.Begun.{begun-twenty}
+use Rattle.run_plain.proofs.Begun.{begun-twenty, begun-full}
 use Rattle.run_plain.proofs.Made.{made-recorded}
 use Rattle.run_plain.proofs.Ends.{opened-ends}
 
@@ -24,6 +24,7 @@ demand w k g more h =
       opened = λ z. subst (OpenedRun _) (sym e) (opened-run _ _ z);
       stands = opened-stands w k g more h;
       twenty = λ z. begun-twenty _ _ z;
+      full = λ z. begun-full _ _ z;
       made = λ z. made-recorded _ _ ∙ ap recordedIn (sym (opened-stands w k g more h z .records));
       ends = λ z c. opened-ends w k g more c h z;
       refused = refused-stands w k g more h;

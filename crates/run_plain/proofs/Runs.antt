@@ -1,26 +1,30 @@
 -- What holds of every plain run: its questions, its records and how it ends. By induction on the answers. Assumes nothing.
 use mathlib.Core.Path.{_≡_, refl, sym, ap, _∙_, subst}
-use mathlib.Core.Bool.{Bool, false}
+use mathlib.Core.Bool.{false}
 use mathlib.Core.List.{List, [], _∷_, _++_}
-use Prim.Native.Nat.{ℕ, suc, _+_, _<_}
+use Prim.Native.Nat.{ℕ, suc, _+_, _≤_, _<_}
 use native.Mathlib.Nat.{add-zero}
 use native.Mathlib.Omega.{arith}
 use lib.ListN.{length, length-append}
+use lib.Dec.{leb}
 use borrow.Author.Tests.{leb-false}
 use Rattle.topo.specs.declared.Iteration.{Iteration}
+use Rattle.topo.specs.declared.Sharpening.{Sharpening}
+use Rattle.topo.specs.declared.Sharpening.the-variants.{Full}
 use Rattle.run_plain.specs.declared.Verdict.{Verdict}
 use Rattle.run_plain.specs.declared.Verdict.the-variants.{Kept, Over, Halts, Begins, Solves}
 use Rattle.run_plain.specs.declared.Course.{Course}
 use Rattle.run_plain.specs.declared.Course.the-variants.{Onward, Ends}
 use Rattle.run_plain.specs.declared.Entry.the-variants.{Opens}
-use Rattle.run_plain.specs.Formulas.{sharpness}
+use Rattle.run_plain.specs.Formulas.{Steep, s16, sharpness}
 use Rattle.run_plain.specs.Opening.{Opening, entryOf}
-use Rattle.run_plain.specs.Plain.{Answer, Part, nothing, solid, round, Out, Row, Seen, inOrder, judged, firstStop, sharpest, countAt, Run, plainStart, updated, stopsOf, onward, checksOf, after, answered, leftOf, plainFrom, plainRun}
-use Rattle.run_plain.specs.Runs.{solidIn, roundIn, solidAsked, roundsAsked, Upto, stop, more, First, All, none, each, GoodRecord, Numbered, GoodShown, good, Ended, refusal, bySolver, byStop}
+use Rattle.run_plain.specs.Plain.{Answer, Part, nothing, solid, round, Out, Row, Seen, inOrder, judged, firstStop, same, sharpest, countAt, Run, plainStart, updated, stopsOf, onward, checksOf, after, answered, leftOf, plainFrom, plainRun}
+use Rattle.run_plain.specs.Runs.{solidIn, roundIn, solidAsked, roundsAsked, Upto, stop, more, First, All, none, each, fullSteep, GoodRecord, Numbered, FullStages, GoodShown, good, Ended, refusal, bySolver, byStop}
 use Rattle.run_plain.specs.Demand.{OpenedRun}
 use Rattle.run_plain.proofs.Formulas.{ready}
 use Rattle.run_plain.proofs.Counts.{GoesOn, goes-on}
 use Rattle.run_plain.proofs.Verdicts.{Told-of, told, first-is, first-only}
+use Rattle.run_plain.proofs.Full.{first-last, staged-passed, staged-exactly}
 use Rattle.run_plain.proofs.Keeps.{Sound, Here, Keeps, keeps-on, keeps-start}
 
 -- ---- questions
@@ -104,11 +108,11 @@ all-append : {A : Type 0} (P : A → Type 0) (l m : List A) → All P l → All 
 all-append P l m none y = y
 all-append P l m (each p x) y = each p (all-append P _ m x y)
 
-good-rows : (f : Bool) (rows : List Row) → Sound f rows → All (GoodRecord f) (inOrder rows)
+good-rows : (f : Sharpening) (rows : List Row) → Sound f rows → All (GoodRecord f) (inOrder rows)
 good-rows f [] s = none
 good-rows f (r ∷ rows) s =
-    all-append (GoodRecord f) (inOrder rows) (r .entry ∷ []) (good-rows f rows (s .4))
-    (each (s .0, λ e h. s .3 ∙ ap sharpness (s .1 e (let q : r .entry .number ≡ suc (length rows) = s .2 in omega arith))) none)
+    all-append (GoodRecord f) (inOrder rows) (r .entry ∷ []) (good-rows f rows (s .5))
+    (each (s .0, (λ e h. s .3 ∙ ap sharpness (s .1 e (let q : r .entry .number ≡ suc (length rows) = s .2 in omega arith))), λ e. s .3 ∙ ap sharpness (s .4 e ∙ ap fullSteep (sym (s .2)))) none)
 
 numbered-more : (n : ℕ) (l : List Iteration) (e : Iteration) → Numbered n l → e .number ≡ n + length l → Numbered n (l ++ (e ∷ []))
 unfolding Numbered
@@ -119,18 +123,36 @@ long-rows : (rows : List Row) → length (inOrder rows) ≡ length rows
 long-rows [] = refl
 long-rows (r ∷ rows) = let h = length-append (inOrder rows) (r .entry ∷ []) in omega (arith, h, long-rows rows)
 
-numbered-rows : (f : Bool) (rows : List Row) → Sound f rows → Numbered 1 (inOrder rows)
+numbered-rows : (f : Sharpening) (rows : List Row) → Sound f rows → Numbered 1 (inOrder rows)
 unfolding Numbered
 numbered-rows f [] s = tt
-numbered-rows f (r ∷ rows) s = numbered-more 1 (inOrder rows) (r .entry) (numbered-rows f rows (s .4)) (let q : r .entry .number ≡ suc (length rows) = s .2 in omega (arith, long-rows rows))
+numbered-rows f (r ∷ rows) s = numbered-more 1 (inOrder rows) (r .entry) (numbered-rows f rows (s .5)) (let q : r .entry .number ≡ suc (length rows) = s .2 in omega (arith, long-rows rows))
 
-steep-rows : (f : Bool) (rows : List Row) → Sound f rows → All (λ (r : Row). r .entry .sharpness ≡ sharpness (r .steep)) rows
+steep-rows : (f : Sharpening) (rows : List Row) → Sound f rows → All (λ (r : Row). r .entry .sharpness ≡ sharpness (r .steep)) rows
 steep-rows f [] s = none
-steep-rows f (r ∷ rows) s = each (s .3) (steep-rows f rows (s .4))
+steep-rows f (r ∷ rows) s = each (s .3) (steep-rows f rows (s .5))
+
+full-rows : (f : Sharpening) → f ≡ Full → (rows : List Row) → Sound f rows → All (λ (r : Row). r .steep ≡ fullSteep (r .entry .number)) rows
+full-rows f e [] s = none
+full-rows f e (r ∷ rows) s = each (s .4 e ∙ ap fullSteep (sym (s .2))) (full-rows f e rows (s .5))
+
+first-rows : (rows : List Row) → All (λ (r : Row). r .steep ≡ fullSteep (r .entry .number)) rows → All (λ (r : Row). same (r .steep) s16 ≡ leb 81 (r .entry .number)) rows
+first-rows rows none = none
+first-rows (r ∷ rows) (each e h) = each (ap (λ (b : Steep). same b s16) e ∙ first-last (r .entry .number)) (first-rows rows h)
+
+full-stages : (r : Run) → Keeps r → r .given .goal .sharpen ≡ Full → FullStages (r .rows)
+full-stages r k e =
+    let s = full-rows (r .given .goal .sharpen) e (r .rows) (k .sound) in
+    record {
+      steeps = s;
+      exactly = λ d t n. staged-exactly (r .steep) (r .rows) (k .full e) (subst (λ (f : Sharpening). (d : Steep) → sharpest f d ≡ false → countAt d (r .rows) ≤ 20) e (k .below)) n d t;
+      passed = staged-passed (r .steep) (r .rows) (k .climbs) (k .full e);
+      first = first-rows (r .rows) s;
+    }
 
 good-left : (r : Run) → Keeps r → GoodShown (r .given) (leftOf r)
 good-left r k =
-    good (record { rows = r .rows; are = refl; numbered = numbered-rows (r .given .goal .sharpen) (r .rows) (k .sound); steeps = steep-rows (r .given .goal .sharpen) (r .rows) (k .sound); most = k .most; good = good-rows (r .given .goal .sharpen) (r .rows) (k .sound); twenty = k .below })
+    good (record { rows = r .rows; are = refl; numbered = numbered-rows (r .given .goal .sharpen) (r .rows) (k .sound); steeps = steep-rows (r .given .goal .sharpen) (r .rows) (k .sound); most = k .most; good = good-rows (r .given .goal .sharpen) (r .rows) (k .sound); twenty = k .below; full = full-stages r k })
 
 good-from : (o : Opening) (r : Run) (rest : List Answer) → r .given ≡ o → Keeps r → All (λ (s : Seen). GoodShown o (s .left)) (plainFrom r rest)
 unfolding plainFrom

@@ -12,8 +12,10 @@ use borrow.Author.Tests.{leb-false}
 use Rattle.lists.specs.Lists.{choose, overlay}
 use Rattle.lists.proofs.Laws.{choose-false}
 use Rattle.topo.specs.declared.Iteration.{Iteration}
+use Rattle.topo.specs.declared.Sharpening.{Sharpening}
 use Rattle.topo.specs.declared.Stop.{Stop}
 use Rattle.topo.specs.declared.Stop.the-variants.{Stopped}
+use Rattle.topo.specs.Stages.{sharpens}
 use Rattle.oc_record.specs.Record.{complianceOf}
 use Rattle.update_rates.specs.Rates.{Search}
 use Rattle.run_plain.specs.declared.Phase.{Phase}
@@ -89,6 +91,7 @@ is-begun l₀ r s l k a m h p =
             entries = m .entries;
             limit = m .limit;
             sizes = sizes-back l l₀ dl sl ll hl (m .sizes) (ap length (overlay-part (k .design) (l .design))) (n .long) (ap length (overlay-part (k .last) (l .last))) (ap length (overlay-part (k .history) (l .history)));
+            sharpen = m .sharpen;
             case = m .case;
             design = rw overlay-part (m .design);
             asked = n .whole;
@@ -146,6 +149,7 @@ is-recorded l₀ r s l k a ph st tu sy w b p density m h d q lt hq hs f c =
       limit = m .limit;
       sizes = sizes-back l l₀ (overlay (overlay u (take (k .design) (l .design))) (l .design)) (overlay density (l .density)) (overlay (overlay x (take (k .last) (l .last))) (l .last)) (overlay (set (take (k .history) (l .history)) (s .progress .rounds) e) (l .history))
           (m .sizes) (nd .long) hs (nl .long) (nh .long);
+      sharpen = m .sharpen;
       case = m .case;
       design = nd .whole;
       asked = hq;
@@ -277,7 +281,7 @@ unfolding choose
 choose-same true a = refl
 choose-same false a = refl
 
-fresh-counts : (f : Bool) (s : State) → s .progress .stage ≡ 0 → s .progress .«at_stage» ≡ 0 → s .progress .steady ≡ 0 → s .progress .rounds ≡ 0 → Running f s1 [] s
+fresh-counts : (f : Sharpening) (s : State) → s .progress .stage ≡ 0 → s .progress .«at_stage» ≡ 0 → s .progress .steady ≡ 0 → s .progress .rounds ≡ 0 → Running f s1 [] s
 unfolding countAt steadyRun levelWith levelAt
 fresh-counts f s a b c d =
     record { stage = a; turns = b ∙ choose-same (sharpest f s1) 0; few = omega arith; steady = c; calm = omega arith; before = λ w. choose-false (ltb 0 (s .progress .rounds)) _ false (ap (λ (n : ℕ). ltb 0 n) d) }
@@ -316,6 +320,7 @@ open-sim g k l e =
         history = length (overlay-part (k .history) (l .history) i);
         work = [];
       };
+      sharpen = refl;
       case = λ i. record {
         volumes = whole-part n (take (k .volumes) (l .volumes)) (l .volumes) refl i;
         passive = whole-part n (take (k .passive) (l .passive)) (l .passive) (y .passive) i;
@@ -323,7 +328,7 @@ open-sim g k l e =
         near = fn .whole i;
         coef = fc .whole i;
         fraction = g .goal .fraction;
-        sharpen = g .goal .sharpen;
+        sharpen = sharpens (g .goal .sharpen);
         projectAt = g .goal .«project_at»;
       };
       design = fd .whole;

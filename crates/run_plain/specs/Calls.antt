@@ -4,13 +4,15 @@ use mathlib.Core.Path.{_≡_}
 use mathlib.Core.Bool.{Bool, true, false, not, _&&_, _||_}
 use mathlib.Core.List.{List, [], _∷_}
 use Prim.Native.Nat.{ℕ, zero, suc}
-use lib.ListN.{length, take, drop, set, replicate}
+use lib.ListN.{length, take, set, replicate}
 use lib.Dec.{ltb, leb, eqb}
 use lib.Ieee.{Float}
 use Rattle.lists.specs.Lists.{choose, zero64, overlay}
 use Rattle.topo.specs.declared.Goal.{Goal}
 use Rattle.topo.specs.declared.Iteration.{Iteration}
+use Rattle.topo.specs.declared.Sharpening.the-variants.{Off}
 use Rattle.topo.specs.declared.Stop.the-variants.{Stopped}
+use Rattle.topo.specs.Stages.{sharpens, early}
 use Rattle.oc_record.specs.Record.{complianceOf}
 use Rattle.update_rates.specs.Rates.{Search}
 use Rattle.run_plain.specs.declared.Phase.{Phase}
@@ -160,7 +162,7 @@ caseFrom s l =
       near = take (s .setting .entries) (l .near);
       coef = take (s .setting .entries) (l .coef);
       fraction = s .setting .fraction;
-      sharpen = s .setting .sharpen;
+      sharpen = sharpens (s .setting .sharpen);
       projectAt = s .setting .«project_at»;
     }
 
@@ -225,7 +227,7 @@ stopsAt s h r =
 
 -- whether the steepness moves on
 unfoldable pub dueAt : State → Iteration → Bool
-dueAt s r = leb 20 (suc (s .progress .«at_stage»)) || small (r .change)
+dueAt s r = leb 20 (suc (s .progress .«at_stage»)) || (early (s .setting .sharpen) && small (r .change))
 
 unfoldable pub stageAfter : State → Iteration → ℕ
 stageAfter s r = choose (sharpest (s .setting .sharpen) (steepAt (s .progress .stage))) (s .progress .stage) (choose (dueAt s r) (suc (s .progress .stage)) (s .progress .stage))
@@ -338,13 +340,6 @@ inTurn Round = false
 unfoldable pub openOf : State → Asked → List ℕ → Lists → Result
 openOf s g work l = choose (inTurn (s .phase)) (openBy s (openingOf g work l) l (entryOf (openingOf g work l))) (keeps s 20 l)
 
--- what an opening leaves in a working list, n places of which it needs: as lent, zero throughout, or free in the needed places alone
-abbrev pub workBy : {A : Type 0} → A → ℕ → List A → List A → Entry → Type 0
-workBy z n before later (KeptOut k) = later ≡ before
-workBy z n before later (Zeroed k) = later ≡ replicate (length before) z
-workBy z n before later Shut = later ≡ replicate (length before) z
-workBy z n before later Opens = (length later ≡ length before) × (drop n later ≡ drop n before)
-
 -- ---- the caller: it holds a state and lists, lends each call the first places of each list, and writes nothing meanwhile
 pub record World : Type 0 where
   pub state : State
@@ -437,7 +432,7 @@ worldFrom w (c ∷ more) = worldFrom (worldAfter (w .lists) (resultOf w c)) more
 
 -- "the fresh state that docs/ gives"
 unfoldable pub fresh : State
-fresh = record { phase = Idle; setting = record { elements = 0; entries = 0; fraction = zero64; sharpen = false; «max_iterations» = 0; «project_at» = zero64 }; progress = unstarted; compliances = noWork }
+fresh = record { phase = Idle; setting = record { elements = 0; entries = 0; fraction = zero64; sharpen = Off; «max_iterations» = 0; «project_at» = zero64 }; progress = unstarted; compliances = noWork }
 
 -- what the plain run is fed of a call: of the lists the lengths that are lent
 abbrev pub fed : Lists → Call → Answer

@@ -4,6 +4,7 @@ use mathlib.Core.Bool.{Bool, true, false}
 use mathlib.Core.List.{List, map}
 use Prim.Native.Nat.{ℕ, _≤_}
 use lib.ListN.{take}
+use Rattle.topo.specs.declared.Sharpening.the-variants.{Full}
 use Rattle.run_plain.specs.declared.Entry.the-variants.{Opens}
 use Rattle.run_plain.specs.declared.State.{State}
 use Rattle.run_plain.specs.Lent.{Sizes}
@@ -11,7 +12,7 @@ use Rattle.run_plain.specs.Formulas.{Steep}
 use Rattle.run_plain.specs.Opening.{Opening, entryOf}
 use Rattle.run_plain.specs.Plain.{Answer, nothing, Out, Seen, inOrder, sharpest, Run, plainStart, runFrom, plainRun}
 use Rattle.run_plain.specs.Calls.{Lists, Arguments, Result, partOf, sound, answerOf, Asked, openingOf, World, lend, Call, resultOf, outOf, callsRun, worldOpen, worldFrom, fed, NoRun}
-use Rattle.run_plain.specs.Runs.{solidAsked, roundsAsked, Upto, All, GoodShown, roundsBegun, times, Ended, made as madeIn, recordedIn}
+use Rattle.run_plain.specs.Runs.{solidAsked, roundsAsked, Upto, All, GoodShown, roundsBegun, times, FullFrom, Ended, made as madeIn, recordedIn}
 
 -- what an opened run shows: "one question for the solid part and one a round begun, begins no more rounds than the goal allows", and its records
 pub record OpenedRun (o : Opening) (l : List Seen) : Type 0 where
@@ -61,6 +62,8 @@ module _ (w : World) (k : Sizes) (g : Asked) (more : List Call) where
     pub stands : entryOf opening ≡ Opens → Stands callsEnd plainEnd
     -- "if sharpened, has at most 20 rounds at each steepness below 16": rounds begun, the last one without a record among them
     pub twenty : entryOf opening ≡ Opens → (d : Steep) → sharpest (opening .goal .sharpen) d ≡ false → times d (roundsBegun (plainStart opening) answers) ≤ 20
+    -- 02, "Full stages": "exactly 20 and round 81, if it is reached, is the first at 16": of the rounds begun; of the records `FullStages` says it
+    pub full : entryOf opening ≡ Opens → opening .goal .sharpen ≡ Full → FullFrom 1 (roundsBegun (plainStart opening) answers)
     -- "makes just the reckonings in its records"
     pub made : entryOf opening ≡ Opens → madeIn (plainStart opening) answers ≡ recordedIn (take (callsEnd .state .progress .rounds) (callsEnd .lists .history))
     -- "A run ends exactly where the plain run tries a stop of 01 that applies, by the first in its order, or by a refusal that 01 marks over."

@@ -8,6 +8,7 @@ use lib.Ieee.{Float, lt}
 use Rattle.lists.specs.Lists.{tabulate, zero64}
 use Rattle.ieee.specs.Basic.{one64}
 use Rattle.topo.specs.declared.Goal.{Goal}
+use Rattle.topo.specs.Stages.{sharpens}
 use Rattle.lent.specs.Refusals.{Test, firstOf}
 use Rattle.filter.specs.Filter.{neighbours, start, coefficients}
 use Rattle.filter.specs.Build.{rowsRefusal, countTests, filterTests}
@@ -92,7 +93,7 @@ module _ (o : Opening) where
 
   -- what the formulas of its rounds read
   unfoldable pub caseOf : Case
-  caseOf = record { volumes = o .volumes; passive = o .passive; starts = startsOf; near = nearOf; coef = coefOf; fraction = o .goal .fraction; sharpen = o .goal .sharpen; projectAt = o .goal .«project_at» }
+  caseOf = record { volumes = o .volumes; passive = o .passive; starts = startsOf; near = nearOf; coef = coefOf; fraction = o .goal .fraction; sharpen = sharpens (o .goal .sharpen); projectAt = o .goal .«project_at» }
 
   -- "the start's design"
   unfoldable pub startOf : List Float

@@ -8,8 +8,10 @@ use lib.Dec.{ltb, leb, eqb}
 use lib.Ieee.{Float}
 use Rattle.lists.specs.Lists.{choose, zero64}
 use Rattle.topo.specs.declared.Iteration.{Iteration}
+use Rattle.topo.specs.declared.Sharpening.{Sharpening}
 use Rattle.topo.specs.declared.Stop.{Stop}
 use Rattle.topo.specs.declared.Stop.the-variants.{Settled, LevelledOff, Limit, Budget, Stopped}
+use Rattle.topo.specs.Stages.{sharpens, early}
 use Rattle.oc_record.specs.Record.{complianceOf}
 use Rattle.run_plain.specs.declared.Said.{Said}
 use Rattle.run_plain.specs.declared.Heard.{Heard}
@@ -72,8 +74,8 @@ unfoldable pub same : Steep → Steep → Bool
 same a b = eqb (stageOf a) (stageOf b)
 
 -- "At 16, or unsharpened throughout"
-unfoldable pub sharpest : Bool → Steep → Bool
-sharpest sharpen b = not sharpen || same b s16
+unfoldable pub sharpest : Sharpening → Steep → Bool
+sharpest sharpen b = not (sharpens sharpen) || same b s16
 
 -- ---- the run's own records, the newest first
 pub record Row : Type 0 where
@@ -95,7 +97,7 @@ levelWith [] w = false
 levelWith (q ∷ rows) w = level (q .entry .compliance) w
 
 -- rounds running, up to the newest, that may settle and are level with the round before
-unfoldable pub steadyRun : Bool → List Row → ℕ
+unfoldable pub steadyRun : Sharpening → List Row → ℕ
 steadyRun sharpen [] = 0
 steadyRun sharpen (r ∷ rows) = choose (sharpest sharpen (r .steep) && levelWith rows (r .entry .compliance)) (suc (steadyRun sharpen rows)) 0
 
@@ -211,9 +213,9 @@ stopsOf r a =
       flag = a .heard .flag;
     }
 
--- "moving on after 20 rounds or a change below 0.01"
-unfoldable pub dueSteep : Bool → Steep → List Row → Steep
-dueSteep sharpen b rows = choose (sharpest sharpen b) b (choose (leb 20 (countAt b rows) || newestChange rows) (next b) b)
+-- "moving on after 20 rounds or a change below 0.01"; with 02's third choice "from each steepness below 16 after exactly 20 rounds, however small the change"
+unfoldable pub dueSteep : Sharpening → Steep → List Row → Steep
+dueSteep sharpen b rows = choose (sharpest sharpen b) b (choose (leb 20 (countAt b rows) || (early sharpen && newestChange rows)) (next b) b)
 
 -- "Then the first stop that applies, the flag's Stopped last: no part. Else steepness moves on if due and it asks for round n+1."
 abbrev pub onward : Run → Course → Step

@@ -2,13 +2,17 @@
 use mathlib.Core.Path.{_≡_}
 use mathlib.Core.Bool.{Bool, true, false, _&&_}
 use mathlib.Core.List.{List, [], _∷_, _++_}
-use Prim.Native.Nat.{ℕ, suc, _+_, _≤_}
+use Prim.Native.Nat.{ℕ, suc, _+_, _-_, _/_, _≤_, _<_}
 use lib.ListN.{length}
+use lib.Dec.{leb}
 use lib.Ieee.{Float}
 use Rattle.lists.specs.Lists.{choose}
 use Rattle.topo.specs.declared.Iteration.{Iteration}
+use Rattle.topo.specs.declared.Sharpening.{Sharpening}
+use Rattle.topo.specs.declared.Sharpening.the-variants.{Full}
 use Rattle.topo.specs.declared.Stop.{Stop}
 use Rattle.topo.specs.declared.Stop.the-variants.{Settled, LevelledOff, Limit, Budget, Stopped}
+use Rattle.topo.specs.Stages.{sharpens}
 use Rattle.update_rates.specs.Tried.{reckonings}
 use Rattle.run_plain.specs.declared.Said.the-variants.{Gave, Failed, Halted}
 use Rattle.run_plain.specs.declared.Verdict.{Verdict}
@@ -17,7 +21,8 @@ use Rattle.run_plain.specs.declared.Course.{Course}
 use Rattle.run_plain.specs.declared.Course.the-variants.{Onward, Ends}
 use Rattle.run_plain.specs.Formulas.{Steep, s16, sharpness, givenAt}
 use Rattle.run_plain.specs.Opening.{Opening, caseOf}
-use Rattle.run_plain.specs.Plain.{Part, nothing, solid, round, Out, refused, asks, stops, Row, Shown, shown, Seen, Stops, Checks, inOrder, same, sharpest, countAt, Run, Answer, judged, checksOf, stopsOf, updated, askedOf, answered}
+use Rattle.run_plain.specs.Plain.{Part, nothing, solid, round, Out, refused, asks, stops, Row, Shown, shown, Seen, Stops, Checks, inOrder, stageOf, same, sharpest, countAt, Run, Answer, judged, checksOf, stopsOf, updated, askedOf, answered}
+use Rattle.run_plain.specs.Calls.{steepAt}
 
 -- ---- questions
 abbrev pub solidIn : Out → ℕ
@@ -62,14 +67,27 @@ pub data All {A : Type 0} (P : A → Type 0) : List A → Type 0 where
   none : All P []
   each : {a : A} {l : List A} → P a → All P l → All P (a ∷ l)
 
--- "at most 200 volume reckonings a round"; if sharpened, "its round 81 is at 16", and so is each after it
-abbrev pub GoodRecord : Bool → Iteration → Type 0
-GoodRecord sharpen e = (e .passes ≤ 200) × (sharpen ≡ true → 81 ≤ e .number → e .sharpness ≡ sharpness s16)
+-- 02, "Full stages": "moves on from each steepness below 16 after exactly 20 rounds, however small the change": the steepness of round n
+unfoldable pub fullSteep : ℕ → Steep
+fullSteep n = steepAt ((n - 1) / 20)
+
+-- "at most 200 volume reckonings a round"; if sharpened, "its round 81 is at 16", and so is each after it; with full stages the steepness goes by the number alone
+abbrev pub GoodRecord : Sharpening → Iteration → Type 0
+GoodRecord sharpen e =
+    (e .passes ≤ 200) × (sharpens sharpen ≡ true → 81 ≤ e .number → e .sharpness ≡ sharpness s16) × (sharpen ≡ Full → e .sharpness ≡ sharpness (fullSteep (e .number)))
 
 -- record k has the number k: the first of the list has n, and each one more than the one before
 unfoldable pub Numbered : ℕ → List Iteration → Type 0
 Numbered n [] = Unit {0}
 Numbered n (e ∷ l) = (e .number ≡ n) × Numbered (suc n) l
+
+-- the records with full stages. "Where the early 80 rounds are allowed and nothing ends the run sooner, the promise of at most 20 becomes exactly 20": at each steepness below 16 once
+-- 80 records stand, and before that at each that has a later one; "and round 81, if it is reached, is the first at 16"
+pub record FullStages (rows : List Row) : Type 0 where
+  pub steeps : All (λ (r : Row). r .steep ≡ fullSteep (r .entry .number)) rows
+  pub exactly : (d : Steep) → same d s16 ≡ false → 80 ≤ length rows → countAt d rows ≡ 20
+  pub passed : (d b : Steep) → stageOf d < stageOf b → 0 < countAt b rows → countAt d rows ≡ 20
+  pub first : All (λ (r : Row). same (r .steep) s16 ≡ leb 81 (r .entry .number)) rows
 
 -- the records that an opened run shows: numbered from 1, no more than the rounds allowed, each good, and, if sharpened, "at most 20 rounds at each steepness below 16"
 pub record GoodRecords (o : Opening) (l : List Iteration) : Type 0 where
@@ -80,6 +98,7 @@ pub record GoodRecords (o : Opening) (l : List Iteration) : Type 0 where
   pub most : length rows ≤ o .goal .«max_iterations»
   pub good : All (GoodRecord (o .goal .sharpen)) l
   pub twenty : (d : Steep) → sharpest (o .goal .sharpen) d ≡ false → countAt d rows ≤ 20
+  pub full : o .goal .sharpen ≡ Full → FullStages rows
 
 pub data GoodShown (o : Opening) : Shown → Type 0 where
   good : {l : List Iteration} {x : List Float} → GoodRecords o l → GoodShown o (shown l x)
@@ -132,6 +151,11 @@ roundsBegun r (a ∷ late) = begunBy (answered r a .out) (answered r a .run .ste
 unfoldable pub times : Steep → List Steep → ℕ
 times d [] = 0
 times d (b ∷ l) = choose (same d b) (suc (times d l)) (times d l)
+
+-- with full stages each is at the steepness of its number, the first of the list being round n
+unfoldable pub FullFrom : ℕ → List Steep → Type 0
+FullFrom n [] = Unit {0}
+FullFrom n (b ∷ l) = (b ≡ fullSteep n) × FullFrom (suc n) l
 
 -- ---- reckonings
 -- "each kept volume that the plain run's update evaluates is one reckoning made": those of an answer, and of a list of answers

@@ -1,6 +1,7 @@
 // The types of the calls `open` and `answer`. What a run does is said in specs/; that every run does it is proved in proofs/.
 ghost use mathlib.Core.Path.{_≡_};
 ghost use Rattle.run_plain.specs.Calls.{endedOf};
+use topo::Sharpening;
 use topo::Stop;
 
 // The part that a state asks for: 01's none, the solid part, a round.
@@ -54,7 +55,7 @@ pub struct Setting {
     // the entries of the filter's table
     pub entries: usize,
     pub fraction: f64,
-    pub sharpen: bool,
+    pub sharpen: Sharpening,
     pub max_iterations: usize,
     // the density that sharpening turns about
     pub project_at: f64,

@@ -183,7 +183,7 @@ fn main() {
         elements: 0,
         fraction: 0,
         radius: 0,
-        sharpen: false,
+        sharpen: 0,
         max_iterations: 0,
         mirrors: 0,
     };

@@ -1,4 +1,2 @@
--- What the walks share: `Said`, `Apart` and `Local` say nothing of the crate.
-mod Said
-mod Apart
+-- `Local`: an array of the function's own that is lent to a call. What walks share besides stands in crate `run`.
 mod Local

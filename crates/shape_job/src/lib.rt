@@ -17,6 +17,7 @@ use run_plain::State;
 use shape_calls::Turn;
 use topo::Goal;
 use topo::Iteration;
+use topo::Sharpening;
 
 // No run is open.
 pub fn fresh() -> State
@@ -28,7 +29,7 @@ pub fn fresh() -> State
             elements: 0,
             entries: 0,
             fraction: 0.0,
-            sharpen: false,
+            sharpen: Sharpening::Off,
             max_iterations: 0,
             project_at: 0.0,
         },

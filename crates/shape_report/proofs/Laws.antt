@@ -103,10 +103,6 @@ decimal-more n h =
     choose-false _ _ _ (le-ltb n 10 h) ∙ ap (λ (l : List ℕ). l ++ (digit (n % 10) ∷ [])) (decimal-enough n (suc (n / 10)) (n / 10) (omega arith) (omega arith))
 
 -- ---- lines
-pub lines-none : {A : Type 0} (line : ℕ → A → List ℕ) (k : ℕ) (l : List A) → linesFrom line k (take 0 l) ≡ []
-unfolding linesFrom
-lines-none line k l = refl
-
 lines-suc : {A : Type 0} (line : ℕ → A → List ℕ) (k i : ℕ) (l : List A) (d : A) → i < length l
     → linesFrom line k (take (suc i) l) ≡ linesFrom line k (take i l) ++ line (k + i) (getD l i d)
 unfolding linesFrom

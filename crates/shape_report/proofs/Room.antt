@@ -13,7 +13,7 @@ use borrow.Author.Tests.{ltb-true, ltb-false}
 use Rattle.topo.specs.declared.Iteration.{Iteration}
 use Rattle.topo.specs.declared.Stop.{Stop}
 use Rattle.topo.specs.declared.Stop.the-variants.{Settled, LevelledOff, Limit, Budget, Stopped}
-use Rattle.shape_report.specs.Report.{ascii, digit, hex, nextBits, decimal, linesFrom, solidLine, roundLine, stopLine, elementLine, ran, refused, textOf}
+use Rattle.shape_report.specs.Report.{ascii, digit, hex, decimal, linesFrom, solidLine, roundLine, stopLine, elementLine, ran, refused, textOf}
 use Rattle.shape_report.specs.Steps.{laid, Wrote}
 use Rattle.shape_report.proofs.Laws.{decimal-small, decimal-more}
 
@@ -68,10 +68,6 @@ length-lines line m k (x ∷ l) h =
 abbrev pub Words : List Iteration → Type 0
 Words [] = Unit {0}
 Words (r ∷ l) = (r .number < 2 ^ 64) × (r .passes < 2 ^ 64) × Words l
-
-length-next : (x : Float) → length (nextBits x) ≡ 17
-unfolding ascii
-length-next x = ap suc (length-hex 16 _)
 
 length-round : (r : Iteration) → r .number < 2 ^ 64 → r .passes < 2 ^ 64 → length (roundLine r) ≤ 133
 unfolding roundLine ascii

@@ -1,7 +1,6 @@
 -- 01's example of a job as a strip: two elements, unsharpened, one round, share 0.75, radius 1, no planes. It is read, and refused with one byte
 -- changed, added or left out. antt computes each. Assumes nothing.
 use mathlib.Core.Path.{_≡_, refl}
-use mathlib.Core.Bool.{false}
 use mathlib.Core.List.{List, [], _∷_, _++_}
 use Prim.Native.Nat.{ℕ}
 use lib.ListN.{set, take}
@@ -26,12 +25,12 @@ example =
     42 ∷ 0 ∷ 0 ∷ 112 ∷
     []
 
-pub is-read : Strip.checkStrip example ≡ Read record { elements = 2; fraction = 0x3fe8_0000_0000_0000; radius = 0x3ff0_0000_0000_0000; sharpen = false; «max_iterations» = 1; mirrors = 0 }
+pub is-read : Strip.checkStrip example ≡ Read record { elements = 2; fraction = 0x3fe8_0000_0000_0000; radius = 0x3ff0_0000_0000_0000; sharpen = 0; «max_iterations» = 1; mirrors = 0 }
 unfolding example Strip.checkStrip Strip.accepted Strip.misplaced Strip.placeAt Strip.headAt Strip.fieldAt Strip.partAt Strip.stands Strip.wordAt Strip.littleEndian Strip.jobOf Strip.numberOf choose anyTo
 is-read = refl
 
 -- a not-a-number keeps its bits
-payload-kept : Strip.checkStrip (set (set (set example 4 0x7f) 11 0x3f) 12 1) ≡ Read record { elements = 2; fraction = 0x7ff8_0000_0000_0001; radius = 0x3ff0_0000_0000_0000; sharpen = false; «max_iterations» = 1; mirrors = 0 }
+payload-kept : Strip.checkStrip (set (set (set example 4 0x7f) 11 0x3f) 12 1) ≡ Read record { elements = 2; fraction = 0x7ff8_0000_0000_0001; radius = 0x3ff0_0000_0000_0000; sharpen = 0; «max_iterations» = 1; mirrors = 0 }
 unfolding example Strip.checkStrip Strip.accepted Strip.misplaced Strip.placeAt Strip.headAt Strip.fieldAt Strip.partAt Strip.stands Strip.wordAt Strip.littleEndian Strip.jobOf Strip.numberOf choose anyTo
 payload-kept = refl
 
@@ -60,10 +59,19 @@ unused-bit : Strip.checkStrip (set example 5 1) ≡ Refused 22
 unfolding example Strip.checkStrip Strip.accepted Strip.misplaced Strip.placeAt Strip.headAt Strip.fieldAt Strip.partAt Strip.stands Strip.wordAt Strip.littleEndian Strip.jobOf Strip.numberOf choose anyTo
 unused-bit = refl
 
--- the sharpen flag 2
-flag-two : Strip.checkStrip (set example 28 2) ≡ Refused 22
+-- the sharpen flag 2 is the third choice, 3 is none
+choice-two : Strip.checkStrip (set example 28 2) ≡ Read record { elements = 2; fraction = 0x3fe8_0000_0000_0000; radius = 0x3ff0_0000_0000_0000; sharpen = 2; «max_iterations» = 1; mirrors = 0 }
 unfolding example Strip.checkStrip Strip.accepted Strip.misplaced Strip.placeAt Strip.headAt Strip.fieldAt Strip.partAt Strip.stands Strip.wordAt Strip.littleEndian Strip.jobOf Strip.numberOf choose anyTo
-flag-two = refl
+choice-two = refl
+
+choice-three : Strip.checkStrip (set example 28 3) ≡ Refused 22
+unfolding example Strip.checkStrip Strip.accepted Strip.misplaced Strip.placeAt Strip.headAt Strip.fieldAt Strip.partAt Strip.stands Strip.wordAt Strip.littleEndian Strip.jobOf Strip.numberOf choose anyTo
+choice-three = refl
+
+-- the first element's held flag 2
+held-two : Strip.checkStrip (set example 100 2) ≡ Refused 22
+unfolding example Strip.checkStrip Strip.accepted Strip.misplaced Strip.placeAt Strip.headAt Strip.fieldAt Strip.partAt Strip.stands Strip.wordAt Strip.littleEndian Strip.jobOf Strip.numberOf choose anyTo
+held-two = refl
 
 -- four planes
 four-planes : Strip.checkStrip (set example 36 4) ≡ Refused 22

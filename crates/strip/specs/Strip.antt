@@ -6,7 +6,7 @@ use lib.Dec.{eqb, ltb}
 use lib.ListN.{length, getD}
 use Rattle.lists.specs.Lists.{choose, anyTo, overwrite}
 use Rattle.strip.specs.declared.words.Place.{Place}
-use Rattle.strip.specs.declared.words.Place.the-variants.{Start, Top, Next, Last, Flag, Count, Planes, End, Nothing}
+use Rattle.strip.specs.declared.words.Place.the-variants.{Start, Top, Next, Last, Flag, Choice, Count, Planes, End, Nothing}
 use Rattle.strip.specs.declared.Job.{Job}
 use Rattle.strip.specs.declared.Answer.{Answer}
 use Rattle.strip.specs.declared.Answer.the-variants.{Read, Refused}
@@ -41,7 +41,7 @@ partAt j = choose (eqb (j % 3) 0) Top (choose (eqb (j % 3) 1) Next Last)
 
 -- "start; share, radius; sharpen flag; rounds; planes": words 0 to 9
 unfoldable pub headAt : ℕ → Place
-headAt p = choose (eqb p 0) Start (choose (ltb p 7) (partAt (p - 1)) (choose (eqb p 7) Flag (choose (eqb p 8) Count Planes)))
+headAt p = choose (eqb p 0) Start (choose (ltb p 7) (partAt (p - 1)) (choose (eqb p 7) Choice (choose (eqb p 8) Count Planes)))
 
 -- "per element volume, x, y, z, weight, held flag": 16 words
 unfoldable pub fieldAt : ℕ → Place
@@ -64,13 +64,15 @@ placeAt elements mirrors p =
     (choose (eqb p (elementAt mirrors elements)) End Nothing)))
 
 -- whether w may stand as word p at a place: "Kind 1: start, element count. 2, 3, 4 in a row: one f64's top 8, next 28, last 28 bits, unused bits
--- zero. 5: flag, 0 or 1. 6: count. 7: end, number of words before it; nothing follows." "planes (0 to 3)"
+-- zero. 5: flag, 0 or 1. 6: count. 7: end, number of words before it; nothing follows." "planes (0 to 3)". 02: "A third sharpening choice, strip flag value 2 (held flags stay 0 or
+-- 1)"
 unfoldable pub stands : Place → ℕ → ℕ → Bool
 stands Start p w = eqb (kindOf w) 1
 stands Top p w = eqb (kindOf w) 2 && ltb (payloadOf w) (2 ^ 8)
 stands Next p w = eqb (kindOf w) 3
 stands Last p w = eqb (kindOf w) 4
 stands Flag p w = eqb (kindOf w) 5 && ltb (payloadOf w) 2
+stands Choice p w = eqb (kindOf w) 5 && ltb (payloadOf w) 3
 stands Count p w = eqb (kindOf w) 6
 stands Planes p w = eqb (kindOf w) 6 && ltb (payloadOf w) 4
 stands End p w = eqb (kindOf w) 7 && eqb (payloadOf w) p
@@ -99,7 +101,7 @@ jobOf word =
       elements = payloadOf (word 0);
       fraction = numberOf (word 1) (word 2) (word 3);
       radius = numberOf (word 4) (word 5) (word 6);
-      sharpen = eqb (payloadOf (word 7)) 1;
+      sharpen = payloadOf (word 7);
       «max_iterations» = payloadOf (word 8);
       mirrors = payloadOf (word 9);
     }

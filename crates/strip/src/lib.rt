@@ -8,7 +8,8 @@ pub struct Job {
     // 01's share
     pub fraction: u64,
     pub radius: u64,
-    pub sharpen: bool,
+    // 0, 1 or 2: `topo`'s choices of sharpening
+    pub sharpen: u32,
     // 01's rounds
     pub max_iterations: usize,
     // 01's planes

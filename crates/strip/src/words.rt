@@ -12,6 +12,8 @@ pub enum Place {
     Last,
     // 0 or 1
     Flag,
+    // the sharpening: 0, 1 or 2
+    Choice,
     // any count
     Count,
     // the number of planes, 0 to 3
@@ -60,7 +62,7 @@ fn head_at(p: usize) -> Place
         return part_at(p - 1);
     }
     if p == 7 {
-        return Place::Flag;
+        return Place::Choice;
     }
     if p == 8 {
         return Place::Count;
@@ -110,6 +112,7 @@ pub fn stands_at(place: Place, p: usize, w: u32) -> bool
         Place::Next => kind == 3,
         Place::Last => kind == 4,
         Place::Flag => (kind == 5) & (payload < 2),
+        Place::Choice => (kind == 5) & (payload < 3),
         Place::Count => kind == 6,
         Place::Planes => (kind == 6) & (payload < 4),
         Place::End => (kind == 7) & ((payload as usize) == p),

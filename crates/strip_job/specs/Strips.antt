@@ -5,6 +5,7 @@ use lib.Dec.{ltb}
 use lib.Ieee.{Float, ofBits, binary64}
 use Rattle.lists.specs.Lists.{choose}
 use Rattle.topo.specs.declared.Goal.{Goal}
+use Rattle.topo.specs.Stages.{sharpeningOf}
 use Rattle.strip.specs.declared.Job.{Job}
 use Rattle.strip.specs.declared.Answer.{Answer}
 use Rattle.strip.specs.declared.Answer.the-variants.{Read, Refused}
@@ -23,6 +24,6 @@ jobIn (Read job) none = job
 abbrev pub projectAt : Float
 projectAt = ofBits binary64 0x3fe0_0000_0000_0000
 
--- its numbers are floats from here on
+-- its numbers are floats from here on, and its sharpening one of the three choices
 abbrev pub goalOf : Job → Goal
-goalOf job = record { fraction = ofBits binary64 (job .fraction); radius = ofBits binary64 (job .radius); sharpen = job .sharpen; «max_iterations» = job .«max_iterations»; «project_at» = projectAt }
+goalOf job = record { fraction = ofBits binary64 (job .fraction); radius = ofBits binary64 (job .radius); sharpen = sharpeningOf (job .sharpen); «max_iterations» = job .«max_iterations»; «project_at» = projectAt }

@@ -40,7 +40,7 @@ pub fn goal(job: Job) -> Goal
     Goal {
         fraction: ieee_bits::from_bits(job.fraction),
         radius: ieee_bits::from_bits(job.radius),
-        sharpen: job.sharpen,
+        sharpen: topo::sharpening_of(job.sharpen),
         max_iterations: job.max_iterations,
         project_at: topo::PROJECT_AT,
     }

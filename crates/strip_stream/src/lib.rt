@@ -123,7 +123,7 @@ pub fn finish(r: Reader) -> Answer
             elements,
             fraction: words::number(head[1], head[2], head[3]),
             radius: words::number(head[4], head[5], head[6]),
-            sharpen: head[7] % 0x1000_0000 == 1,
+            sharpen: head[7] % 0x1000_0000,
             max_iterations,
             mirrors,
         });

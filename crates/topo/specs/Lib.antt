@@ -1,2 +1,3 @@
--- `Levels` has the stiffness levels of mod.rs.
+-- `Levels` has the stiffness levels of mod.rs, `Stages` the three choices of sharpening.
 pub mod Levels
+pub mod Stages

@@ -2,6 +2,7 @@
 ghost use mathlib.Core.Path.{_≡_};
 ghost use mathlib.Core.Bool.{true};
 ghost use Rattle.topo.specs.Levels.{modulusOf, levelOf};
+ghost use Rattle.topo.specs.Stages.{sharpens as sharpensOf, early as earlyOf, sharpeningOf, sharpeningNumber};
 
 // How many stiffness levels the solver is given: level 0 is the floor, 1000 the material itself.
 pub const LEVELS: u16 = 1000;
@@ -30,14 +31,22 @@ pub const LEVEL_OFF_RUN: usize = 5;
 // The most nodes of a mesh that the CAD program optimises on; nothing here looks at it.
 pub const MAX_SHAPE_NODES: usize = 100_000;
 
+// Whether the design is sharpened toward solid and empty as it goes, and when the steepness moves on.
+pub enum Sharpening {
+    Off,
+    // after 20 rounds or a small change: mod.rs's own
+    Early,
+    // after 20 rounds, however small the change
+    Full,
+}
+
 // What is asked of the optimiser. The planes are a lent list, and the time is given with each answer.
 pub struct Goal {
     // the share of the volume to keep, more than 0 and less than 1
     pub fraction: f64,
     // the filter's radius (mm)
     pub radius: f64,
-    // sharpen the design toward solid and empty as it goes
-    pub sharpen: bool,
+    pub sharpen: Sharpening,
     // the most rounds
     pub max_iterations: usize,
     // the density that sharpening turns about, from 0.25 to 0.75
@@ -79,6 +88,51 @@ pub enum Stop {
     Limit,
     Budget,
     Stopped,
+}
+
+// Whether the design is sharpened at all.
+pub fn sharpens(choice: Sharpening) -> bool
+    ensures { λ r. ⌜ r ≡ sharpensOf choice ⌝ }
+{
+    match choice {
+        Sharpening::Off => false,
+        Sharpening::Early => true,
+        Sharpening::Full => true,
+    }
+}
+
+// Whether a small change moves the steepness on before its 20 rounds.
+pub fn early(choice: Sharpening) -> bool
+    ensures { λ r. ⌜ r ≡ earlyOf choice ⌝ }
+{
+    match choice {
+        Sharpening::Off => false,
+        Sharpening::Early => true,
+        Sharpening::Full => false,
+    }
+}
+
+// The choice that a strip, or a caller that knows no enums, gives by a number. Whoever reads one refuses a number above 2.
+pub fn sharpening_of(number: u32) -> Sharpening
+    ensures { λ r. ⌜ r ≡ sharpeningOf number ⌝ }
+{
+    if number == 0 {
+        return Sharpening::Off;
+    }
+    if number == 1 {
+        return Sharpening::Early;
+    }
+    Sharpening::Full
+}
+
+pub fn sharpening_number(choice: Sharpening) -> u32
+    ensures { λ r. ⌜ r ≡ sharpeningNumber choice ⌝ }
+{
+    match choice {
+        Sharpening::Off => 0,
+        Sharpening::Early => 1,
+        Sharpening::Full => 2,
+    }
 }
 
 // The Young's modulus of a stiffness level for a material of modulus e0: the floor plus the level's density cubed of the rest.

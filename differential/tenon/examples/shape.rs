@@ -2,7 +2,8 @@
 //!
 //!     cargo run -p tenon --example shape < STRIP
 //!
-//! The original refuses in words, and knows neither document 01's domain nor lent lists: the numbers of refusals are worked out here, from 01's table.
+//! The original refuses in words, and knows neither document 01's domain nor lent lists: the numbers of refusals are worked out here, from 01's table. A job of
+//! full stages, which it does not know either, goes through its loop without the early move.
 use std::io::Read;
 use std::sync::Arc;
 use std::sync::atomic::AtomicBool;
@@ -10,7 +11,7 @@ use std::time::Duration;
 
 use tenon::Vec3;
 use tenon::stand_ins::ended;
-use tenon::topo::{Design, Filter, Goal, Mirror, Optimized, Stiffness, modulus, oc::no_room, optimize};
+use tenon::topo::{Design, Filter, Goal, Mirror, Optimized, Stiffness, full, modulus, oc::no_room, optimize};
 
 /// Energy = weight / (2·modulus(level, 1)).
 struct Weights(Vec<f64>);
@@ -25,6 +26,7 @@ impl Stiffness for Weights {
 struct Job {
     design: Design,
     goal: Goal,
+    full: bool,
     weights: Vec<f64>,
 }
 
@@ -57,7 +59,7 @@ impl Strip<'_> {
     fn job(&mut self) -> Option<Job> {
         let n = self.count(1)?;
         let (fraction, radius) = (self.number()?, self.number()?);
-        let (sharpen, max_iterations) = (self.take(5, 1)? == 1, self.count(6)?);
+        let (choice, max_iterations) = (self.take(5, 2)?, self.count(6)?);
         let mut mirrors = Vec::new();
         for _ in 0..self.take(6, 3)? {
             mirrors.push(Mirror { point: self.point()?, normal: self.point()? });
@@ -72,7 +74,8 @@ impl Strip<'_> {
         }
         let before = self.at;
         let whole = self.count(7)? == before && self.at == self.words.len();
-        whole.then_some(Job { design, goal: Goal { fraction, radius, sharpen, max_iterations, budget: Duration::MAX, mirrors }, weights })
+        let goal = Goal { fraction, radius, sharpen: choice > 0, max_iterations, budget: Duration::MAX, mirrors };
+        whole.then_some(Job { design, goal, full: choice == 2, weights })
     }
 }
 
@@ -120,6 +123,7 @@ fn run(job: Job) -> Result<(Optimized, Vec<usize>), u32> {
     }
     let mut passes = Vec::new();
     let stop = Arc::new(AtomicBool::new(false));
+    let optimize = if job.full { full::optimize } else { optimize };
     match optimize(&job.design, &job.goal, &mut Weights(job.weights), &stop, &mut |_| passes.push(ended().passes)) {
         Ok(done) => Ok((done, passes)),
         Err(why) => Err(if why == "17" { 17 } else { 19 }),

@@ -1,4 +1,4 @@
--- `answer` meets its contract: that of `answer_core`, with the state and what was heard by their numbers, after the test of the phase. Assumes nothing.
+-- `answer` meets its contract: that of `answer_core`, with the state and what was heard by their numbers, after the test of the numbers. Assumes nothing.
 use denote.Ref.{now}
 use Rattle.c_numbers.proofs.Laws.{answered-as, not-answered}
 use borrow.Author.Needs.{needs}

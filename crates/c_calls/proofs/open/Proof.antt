@@ -1,4 +1,4 @@
--- `open` meets its contract: that of `open_core`, with the state and the goal by their numbers, after the test of the phase. Assumes nothing.
+-- `open` meets its contract: that of `open_core`, with the state and the goal by their numbers, after the tests of the numbers. Assumes nothing.
 use denote.Ref.{now}
 use Rattle.c_numbers.proofs.Laws.{opened-as, not-opened}
 use borrow.Author.Needs.{needs}
@@ -13,17 +13,20 @@ abbrev read : tie.After-open-core → tie.After-goal-of
 read c = c .before .before .before .before .before .before .before .before .before .before .before .before .before .before
 
 abbrev start : tie.After-goal-of → tie.Start
-start c = c .before .before .before .before .before .before .before .before .before .before .before .before .before .before .before .before .before .before
+start c = c .before .before .before .before .before .before .before .before .before .before .before .before .before .before .before .before .before .before .before
 
 -- ---- the needs
 unknown-requires : tie.Need-unknown-requires
 unknown-requires c κs = search needs
 
+no-goal-requires : tie.Need-no-goal-requires
+no-goal-requires c κs = search needs
+
 refused-requires : tie.Need-refused-requires
 refused-requires c κs = search needs
 
 returns : tie.Need-returns
-returns c = not-opened _ _ (c .before .before .unknown .ensures) (c .before .if1 .taken) _ _ _ _ _ (c .refused .ensures)
+returns c = not-opened _ _ _ _ (c .before .before .before .unknown .ensures) (c .before .before .no-goal .ensures) (c .before .if1 .taken) _ _ _ _ _ (c .refused .ensures)
 
 state-of-requires : tie.Need-state-of-requires
 state-of-requires c κs = search needs
@@ -81,7 +84,7 @@ returns-2 c =
     let t = called c in
     let s = read t in
     let a = start s .args in
-    opened-as _ _ (s .before .before .before .unknown .ensures) (s .before .before .if1 .left) _ (s .before .state-of .ensures)
+    opened-as _ _ _ _ (s .before .before .before .before .unknown .ensures) (s .before .before .before .no-goal .ensures) (s .before .before .if1 .left) _ (s .before .state-of .ensures)
     (λ goal. record { centroids = now (a .centroids); mirrors = now (a .mirrors); goal = goal; flag = a .flag })
     _ _ (s .goal-of .ensures) _ _ _ _ _ _ _ (c .returned-numbers .ensures) (t .open-core .ensures)
 
@@ -90,6 +93,7 @@ open-spec =
     tie.close
     (tie.spec
     unknown-requires
+    no-goal-requires
     refused-requires
     returns
     state-of-requires

@@ -7,9 +7,12 @@ use Rattle.c_numbers.proofs.state_numbers.Tie as tie
 phase-number-requires : tie.Need-phase-number-requires
 phase-number-requires c κs = search needs
 
+sharpening-number-requires : tie.Need-sharpening-number-requires
+sharpening-number-requires c κs = search needs
+
 returns : tie.Need-returns
 unfolding stateNumbers
 returns c = cc
 
 pub state-numbers-spec : {M : Type 1} → statement M
-state-numbers-spec = tie.close (tie.spec phase-number-requires returns)
+state-numbers-spec = tie.close (tie.spec phase-number-requires sharpening-number-requires returns)

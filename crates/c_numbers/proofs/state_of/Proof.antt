@@ -7,9 +7,12 @@ use Rattle.c_numbers.proofs.state_of.Tie as tie
 phase-of-requires : tie.Need-phase-of-requires
 phase-of-requires c κs = search needs
 
+sharpening-of-requires : tie.Need-sharpening-of-requires
+sharpening-of-requires c κs = search needs
+
 returns : tie.Need-returns
 unfolding stateOf
 returns c = cc
 
 pub state-of-spec : {M : Type 1} → statement M
-state-of-spec = tie.close (tie.spec phase-of-requires returns)
+state-of-spec = tie.close (tie.spec phase-of-requires sharpening-of-requires returns)

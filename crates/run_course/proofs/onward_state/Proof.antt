@@ -7,14 +7,11 @@ use Rattle.run_course.proofs.onward_state.Tie as tie
 sharpest-requires : tie.Need-sharpest-requires
 sharpest-requires c κs = search needs
 
-small-requires : tie.Need-small-requires
-small-requires c κs = search needs
-
 steady-after-requires : tie.Need-steady-after-requires
 steady-after-requires c κs = search needs
 
-add-due : tie.Need-add-due
-add-due c = search needs
+due-requires : tie.Need-due-requires
+due-requires c κs = search needs
 
 add-either : tie.Need-add-either
 add-either c = search needs
@@ -38,16 +35,15 @@ add-t10 : tie.Need-add-t10
 add-t10 c = search needs
 
 returns : tie.Need-returns
-returns c = onward-is _ _ _ _ _ _ _ _ _ (c .before .before .before .before .before .before .before .before .before .before .before .sharpest .ensures) (c .before .before .before .before .before .before .before .before .before .before .small .ensures) (c .before .before .before .before .before .before .before .before .before .steady-after .ensures) (c .before .before .before .before .before .before .either .ensures) (c .before .before .before .before .before .either2 .ensures) (c .before .before .before .either3 .ensures) (c .before .before .either4 .ensures)
+returns c = onward-is _ _ _ _ _ _ _ _ _ (c .before .before .before .before .before .before .before .before .before .sharpest .ensures) (c .before .before .before .before .before .before .before .before .steady-after .ensures) (c .before .before .before .before .before .before .before .due .ensures) (c .before .before .before .before .before .either .ensures) (c .before .before .before .before .either2 .ensures) (c .before .before .either3 .ensures) (c .before .either4 .ensures)
 
 pub onward-state-spec : {M : Type 1} → statement M
 onward-state-spec =
     tie.close
     (tie.spec
     sharpest-requires
-    small-requires
     steady-after-requires
-    add-due
+    due-requires
     add-either
     either-requires
     either-requires-2

@@ -62,8 +62,8 @@ use Rattle.run_plain.proofs.Returned.Laws as T′-Returned
 use Rattle.shape_calls.specs.declared.Turn.{Turn}
 use Rattle.shape_calls.proofs.Turn as T-Turn
 use Rattle.shape_calls.proofs.Turn.Laws as T′-Turn
-use Rattle.shape_calls.proofs.Said.{all-said, all-go, all-fit}
-use Rattle.shape_calls.proofs.Apart.{conj, tokens, out-at, in-at}
+use Rattle.run.proofs.Said.{all-said, all-go, all-fit}
+use Rattle.run.proofs.Apart.{conj, tokens, out-at, in-at}
 use Rattle.shape_calls.proofs.Local.{lends-local, local-back}
 use Rattle.run.proofs.answer as core
 use Rattle.run.proofs.answer.Symbol as core-def

@@ -1,5 +1,6 @@
 -- `run_answer::fronts::ask` meets its contract: the needed places are lent, and what comes back is laid over. Assumes nothing.
-use mathlib.Core.Path.{ap, _∙_}
+use mathlib.Core.Path.{_∙_}
+use mathlib.Core.Bool.{Bool}
 use mathlib.Core.List.{List}
 use Prim.Native.Nat.{ℕ}
 use native.Mathlib.Omega.{arith}
@@ -17,7 +18,7 @@ use borrow.Author.Needs.{needs}
 use Rattle.run_answer.proofs.fronts.ask.Statement.{statement}
 use Rattle.run_answer.proofs.fronts.ask.Tie as tie
 
--- ---- places, the last first: the call was made; the lists to be written were lent, and those to be read; the entry
+-- ---- places, the last first: the call was made; the lists to be written were lent, and those to be read; the choice was looked at; the entry
 abbrev called : tie.After-slice-known4 → tie.After-ask
 called c = c .before .before .before .before
 
@@ -27,17 +28,23 @@ lent c = c .before .before
 abbrev shared : tie.After-ask-arg5 → tie.After-ask-arg
 shared c = c .before .before .before .before
 
-abbrev start : tie.After-ask-arg → tie.Start
-start c = c .before .before .before .before .before .before .before .before
+abbrev chosen : tie.After-ask-arg → tie.After-sharpens
+chosen c = c .before
 
--- the question by the starts, of which the code counts one more than elements
-abbrev seen : tie.Start → List ℕ → List Float
-seen b s =
-    seenDensity (choose (b .args .state .setting .sharpen) (At (bendOf (sharpness (steepAt (b .args .stage))) (b .args .state .setting .«project_at»))) Off)
+abbrev start : tie.After-ask-arg → tie.Start
+start c = c .before .before .before .before .before .before .before .before .before .before
+
+-- the question by whether it sharpens and by the starts, of which the code counts one more than elements
+abbrev seen : tie.Start → Bool → List ℕ → List Float
+seen b t s =
+    seenDensity (choose t (At (bendOf (sharpness (steepAt (b .args .stage))) (b .args .state .setting .«project_at»))) Off)
     s (take (b .args .state .setting .entries) (now (b .args .near))) (take (b .args .state .setting .entries) (now (b .args .coef)))
     (take (b .args .state .setting .elements) (now (b .args .passive))) (take (b .args .state .setting .elements) (now (b .args .design)))
 
 -- ---- the needs
+sharpens-requires : tie.Need-sharpens-requires
+sharpens-requires c κs = search needs
+
 add-ask : tie.Need-add-ask
 add-ask c = search needs
 
@@ -82,12 +89,13 @@ same-length-2 c = search needs
 returns : tie.Need-returns
 returns c =
     let f = called c .ask in
-    let b = start (shared (lent (called c .before))) in
+    let d = shared (lent (called c .before)) in
+    let b = start d in
     let a = b .args in
     let n = a .state .setting .elements in
     let ys = f .last .1 .1 .1 .1 .1 .1 .1 in
     let k = f .kept .1 .1 .1 .1 .1 .1 .1 in (
-      laid n (ys .0) _ (now (a .density)) (f .ensures ∙ ap (seen b) (take-one n (now (a .starts)))) (k .0) (b .pre .density),
+      laid n (ys .0) _ (now (a .density)) (f .ensures ∙ (λ i. seen b (chosen d .sharpens .ensures i) (take-one n (now (a .starts)) i))) (k .0) (b .pre .density),
       scratched n (ys .1 .0) (now (a .spare)) (k .1 .0) (b .pre .spare),
     )
 
@@ -95,6 +103,7 @@ pub ask-spec : {M : Type 1} → statement M
 ask-spec =
     tie.close
     (tie.spec
+    sharpens-requires
     add-ask
     slice-aggregate-ask
     slice-aggregate-ask-2

@@ -28,11 +28,14 @@ enum-told-7 c = search needs
 enum-told-8 : tie.Need-enum-told-8
 enum-told-8 c = search needs
 
+enum-told-9 : tie.Need-enum-told-9
+enum-told-9 c = search needs
+
 cast-result : tie.Need-cast-result
 cast-result c = search needs
 
-enum-told-9 : tie.Need-enum-told-9
-enum-told-9 c = search needs
+enum-told-10 : tie.Need-enum-told-10
+enum-told-10 c = search needs
 
 returns : tie.Need-returns
 unfolding stands
@@ -70,6 +73,10 @@ returns-9 : tie.Need-returns-9
 unfolding stands
 returns-9 c = rw (c .enum-told9 .given .1)
 
+returns-10 : tie.Need-returns-10
+unfolding stands
+returns-10 c = rw (c .enum-told10 .given .1)
+
 pub stands-at-spec : {M : Type 1} → statement M
 stands-at-spec =
     tie.close
@@ -82,8 +89,9 @@ stands-at-spec =
     enum-told-6
     enum-told-7
     enum-told-8
-    cast-result
     enum-told-9
+    cast-result
+    enum-told-10
     returns
     returns-2
     returns-3
@@ -92,4 +100,5 @@ stands-at-spec =
     returns-6
     returns-7
     returns-8
-    returns-9)
+    returns-9
+    returns-10)

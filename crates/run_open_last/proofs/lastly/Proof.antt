@@ -1,4 +1,4 @@
--- `run_open::lastly` meets its contract: by the flag. Assumes nothing.
+-- `run_open_last::lastly` meets its contract: by the flag. Assumes nothing.
 use mathlib.Core.Path.{refl, sym, subst}
 use mathlib.Core.Bool.{Bool}
 use mathlib.Core.List.{List}
@@ -7,10 +7,10 @@ use denote.Ref.{now}
 use Rattle.run_plain.specs.declared.Reply.the-variants.{Refused, Solid}
 use Rattle.run_plain.specs.declared.Returned.{Returned}
 use Rattle.run_open_checks.specs.Opens.{Work}
-use Rattle.run_open.specs.Steps.{Lastly}
+use Rattle.run_open_last.specs.Steps.{Lastly}
 use borrow.Author.Needs.{needs}
-use Rattle.run_open.proofs.lastly.Statement.{statement}
-use Rattle.run_open.proofs.lastly.Tie as tie
+use Rattle.run_open_last.proofs.lastly.Statement.{statement}
+use Rattle.run_open_last.proofs.lastly.Tie as tie
 
 -- ---- places, the last first. The flag is set: the working lists were wiped
 abbrev wiped : tie.After-ended → tie.After-wipe-work
