@@ -110,7 +110,7 @@ state-passes s = (
   (λ i. number-passes (s .phase) i || choice-passes (s .setting .sharpen) i),
   λ i. record {
     phase = phase-back (s .phase) i;
-    setting = record { elements = s .setting .elements; entries = s .setting .entries; fraction = s .setting .fraction; sharpen = choice-back (s .setting .sharpen) i; «max_iterations» = s .setting .«max_iterations» };
+    setting = record { elements = s .setting .elements; entries = s .setting .entries; fraction = s .setting .fraction; sharpen = choice-back (s .setting .sharpen) i; «max_iterations» = s .setting .«max_iterations»; «project_at» = s .setting .«project_at» };
     progress = s .progress;
     compliances = s .compliances;
   },
