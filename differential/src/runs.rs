@@ -45,7 +45,7 @@ pub fn staged(g: &mut Gen) -> Job {
     job
 }
 
-/// The same about another density than a half, one that the original is compiled for.
+/// A job of `small` about another density than a half, one that the original is compiled for.
 pub fn turned(g: &mut Gen) -> Job {
     let mut job = small(g);
     let elsewhere: Vec<f64> = turned_at().map(|t| t.project_at).collect();
