@@ -24,9 +24,9 @@ pub fn at_bend(bend: Bend) -> Projection
     ensures { λ r. ⌜ (r .bend ≡ bend) × (r .below ≡ belowOf bend) × (r .whole ≡ wholeOf bend) ⌝ }
 {
     let beta = bend.beta;
-    let at = bend.project_at;
-    let below = ieee_tanh::tanh(beta * at);
-    let whole = below + ieee_tanh::tanh(beta * (1.0 - at));
+    let turn = bend.project_at;
+    let below = ieee_tanh::tanh(beta * turn);
+    let whole = below + ieee_tanh::tanh(beta * (1.0 - turn));
     Projection { bend, below, whole }
 }
 
@@ -38,9 +38,10 @@ pub fn project(at: Projection, v: f64) -> Projected
 {
     let bend = at.bend;
     let beta = bend.beta;
+    let turn = bend.project_at;
     let below = at.below;
     let whole = at.whole;
-    let t = ieee_tanh::tanh(beta * (v - bend.project_at));
+    let t = ieee_tanh::tanh(beta * (v - turn));
     Projected {
         density: (below + t) / whole,
         slope: beta * (1.0 - t * t) / whole,

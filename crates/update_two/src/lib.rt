@@ -45,7 +45,8 @@ fn bent(bend: Bend, v: f64) -> f64
     ensures { λ r. ⌜ r ≡ bentOf bend v ⌝ }
 {
     let beta = bend.beta;
-    beta * (ieee::clamp(v) - bend.project_at)
+    let turn = bend.project_at;
+    beta * (ieee::clamp(v) - turn)
 }
 
 // The same of element e's filtered values.

@@ -9,7 +9,7 @@ tanh-requires c κs = search needs
 
 returns : tie.Need-returns
 unfolding turned dividend projected projectedSlope
-returns c = (rw (c .tanh .ensures, c .before .before .before .pre .0, c .before .before .before .pre .1), rw (c .tanh .ensures, c .before .before .before .pre .1))
+returns c = (rw (c .tanh .ensures, c .before .before .pre .0, c .before .before .pre .1), rw (c .tanh .ensures, c .before .before .pre .1))
 
 pub project-spec : {M : Type 1} → statement M
 project-spec = tie.close (tie.spec tanh-requires returns)

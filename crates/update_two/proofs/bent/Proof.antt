@@ -9,7 +9,7 @@ clamp-requires c κs = search needs
 
 returns : tie.Need-returns
 unfolding bent
-returns c = rw (c .before .clamp .ensures)
+returns c = rw (c .clamp .ensures)
 
 pub bent-spec : {M : Type 1} → statement M
 bent-spec = tie.close (tie.spec clamp-requires returns)
