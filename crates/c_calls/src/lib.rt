@@ -1,4 +1,6 @@
 // The calls of a run over the structs of numbers of `c_numbers`, for `capi`.
+#![tactic(auto)]
+
 ghost use Rattle.c_numbers.specs.Flat.{goal_of, heard_of, OpenedAs, AnsweredAs};
 
 use c_numbers::{RunGoal, RunHeard, RunReturned, RunState, RunStep};

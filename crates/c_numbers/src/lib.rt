@@ -1,4 +1,6 @@
 // A run's state, answers and records as structs of numbers, for callers that know no enums. The calls over them are those of `c_calls`.
+#![tactic(auto)]
+
 ghost use Rattle.std.specs.Prelude.{◌≡◌};
 ghost use Rattle.c_numbers.specs.Flat as Flat;
 
@@ -9,7 +11,7 @@ use topo::{Goal, Iteration, Stop};
 // A run as it stands between two calls. Phase 0: no run is open. 1: the solid part is asked for. 2: a round is. Any other number is no run's. The sharpening is as
 // in its goal.
 #[repr(C)]
-#[derive(Drop)]
+#[derive(Clone, Copy)]
 pub struct RunState {
     pub phase: u32,
     pub elements: usize,
@@ -28,7 +30,7 @@ pub struct RunState {
 // What a run is to reach: the share of the volume, the filter's radius, the sharpening, and the rounds allowed. Sharpening 0: off. 1: early. 2: full. Any other number is
 // no goal's.
 #[repr(C)]
-#[derive(Drop)]
+#[derive(Clone, Copy)]
 pub struct RunGoal {
     pub fraction: f64,
     pub radius: f64,
@@ -39,7 +41,7 @@ pub struct RunGoal {
 // What an answer says beside the energies. Said 0: the solver gave them. 1: it failed. Any other number: it stopped. Then whether the run is to stop, and the
 // milliseconds elapsed and allowed.
 #[repr(C)]
-#[derive(Drop)]
+#[derive(Clone, Copy)]
 pub struct RunHeard {
     pub said: u32,
     pub flag: bool,
@@ -50,7 +52,7 @@ pub struct RunHeard {
 // What a call returns. Reply 0: a refusal and its number. 1: the solid part is asked for. 2: a round is, and its number. 3: a stop, and its number: 0
 // Settled, 1 LevelledOff, 2 Limit, 3 Budget, 4 Stopped.
 #[repr(C)]
-#[derive(Drop)]
+#[derive(Clone, Copy)]
 pub struct RunReturned {
     pub state: RunState,
     pub reply: u32,
@@ -59,7 +61,7 @@ pub struct RunReturned {
 
 // A round's record.
 #[repr(C)]
-#[derive(Drop)]
+#[derive(Clone, Copy)]
 pub struct RunRecord {
     pub number: usize,
     pub compliance: f64,
@@ -72,7 +74,7 @@ pub struct RunRecord {
 
 // What an answer returns, with the record that is to be put at a place of the history: past its end where there is none.
 #[repr(C)]
-#[derive(Drop)]
+#[derive(Clone, Copy)]
 pub struct RunStep {
     pub returned: RunReturned,
     pub at: usize,

@@ -1,4 +1,6 @@
 // How an update ended, as a struct of numbers, for callers that know no enums.
+#![tactic(auto)]
+
 ghost use Rattle.std.specs.Prelude.{◌≡◌};
 ghost use Rattle.c_update.specs.Numbers.{ending_number, ending_first, ending_second, told_of};
 
@@ -8,7 +10,7 @@ use update::Updated;
 // How an update ended, or the number of a refusal and zeros. Ending 0: met, with the kept volume first. 1: cramped, with the lower and the
 // upper rate of its bracket. 2: spent, with the kept volume first.
 #[repr(C)]
-#[derive(Drop)]
+#[derive(Clone, Copy)]
 pub struct Update {
     pub refused: u32,
     pub ending: u32,

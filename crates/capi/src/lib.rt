@@ -1,4 +1,6 @@
 // The library for C and Rust: each function under a name of its own, with the contract of the function that it calls.
+#![tactic(auto)]
+
 mod filters;
 mod lengths;
 mod levels;

@@ -42,7 +42,7 @@ pub extern "C" fn sokdrib_passive(
 
 // How far a boundary is from its image, or the number of a refusal and 0.
 #[repr(C)]
-#[derive(Drop)]
+#[derive(Clone, Copy)]
 pub struct Asymmetry {
     pub refused: u32,
     pub distance: f64,
@@ -104,7 +104,7 @@ pub extern "C" fn sokdrib_asymmetry(
 // How far points reach to each side of a plane, where they are off its middle. Where they are about even, where there are none, and at a refusal, off is
 // false and the reaches are 0.
 #[repr(C)]
-#[derive(Drop)]
+#[derive(Clone, Copy)]
 pub struct OffCentre {
     pub refused: u32,
     pub off: bool,

@@ -18,7 +18,7 @@ use oc_kept::Rule;
 use oc_seen::Sharpness;
 
 #[repr(C)]
-#[derive(Drop)]
+#[derive(Clone, Copy)]
 pub struct Projected {
     pub density: f64,
     pub slope: f64,
@@ -26,7 +26,7 @@ pub struct Projected {
 
 // What a run starts with, or the number of a refusal and zeros.
 #[repr(C)]
-#[derive(Drop)]
+#[derive(Clone, Copy)]
 pub struct Start {
     pub refused: u32,
     pub total: f64,
@@ -38,7 +38,7 @@ pub struct Start {
 
 // The volume that a design keeps, or the number of a refusal and 0.
 #[repr(C)]
-#[derive(Drop)]
+#[derive(Clone, Copy)]
 pub struct Kept {
     pub refused: u32,
     pub volume: f64,

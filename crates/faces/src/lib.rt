@@ -1,5 +1,7 @@
 // The square of the distance from a point to a triangle: the nearest point of the triangle, region by region, in the order of Ericson's
 // `ClosestPtPointTriangle` (Real-Time Collision Detection, 5.1.5).
+#![tactic(auto)]
+
 ghost use Rattle.std.specs.Prelude.{◌≡◌};
 ghost use Rattle.faces.specs.Triangle.{dist2_to_triangle};
 

@@ -6,7 +6,7 @@ ghost use Rattle.filter.specs.Steps.{Settles};
 use geom::Vec3;
 
 // What a walk about a point goes by: the middles' box, the radius, the limit, and how many buckets the elements are filed in.
-#[derive(Drop)]
+#[derive(Clone, Copy)]
 pub struct Grid {
     pub lo: Vec3,
     pub hi: Vec3,

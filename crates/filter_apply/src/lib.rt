@@ -1,4 +1,6 @@
 // The densities seen through the filter, A·x (`apply` of filter.rs), for any contents of the table's lists.
+#![tactic(auto)]
+
 ghost use Rattle.std.specs.Prelude.{◌≡◌, ◌+◌, ◌≤◌, ◌<◌, length, get_or};
 ghost use Rattle.lists.specs.Lists.{zero64};
 ghost use Rattle.filter_table.specs.Table.{row_sum, applied};

@@ -1,4 +1,6 @@
 // Slopes carried back through the filter, Aᵀ·g (`back` of filter.rs), for any contents of the table's lists.
+#![tactic(auto)]
+
 ghost use Rattle.std.specs.Prelude.{◌≡◌, ◌+◌, ◌≤◌, ◌<◌, length};
 ghost use Rattle.filter_table.specs.Table.{plus_at, add_to, row_share, backed};
 

@@ -1,4 +1,6 @@
 // filter.rs, `Filter::within`: the table built into three lent lists, or the number of 01's refusal.
+#![tactic(auto)]
+
 ghost use Rattle.filter.specs.Build.{Built};
 
 // Builds the table: 0 where it is built, and 01's number where it is refused.

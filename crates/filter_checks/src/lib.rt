@@ -1,4 +1,6 @@
 // What a build of the filter's table is refused for before any row. No surface of its own.
+#![tactic(auto)]
+
 ghost use Rattle.std.specs.Prelude.{◌≡◌, [], ◌∷◌, ◌<◌};
 ghost use Rattle.lent.specs.Lent.{short};
 ghost use Rattle.filter.specs.Build.{needed, early};

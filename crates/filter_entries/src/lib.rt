@@ -1,4 +1,6 @@
 // The entries of one row: what its elements come to, their sum, and the writing of them.
+#![tactic(auto)]
+
 ghost use Rattle.std.specs.Prelude.{◌≡◌, ◌+◌, ◌≤◌, ◌<◌, length};
 ghost use Rattle.lists.specs.Lists.{sum_to};
 ghost use Rattle.filter_look.specs.Steps.{Within};

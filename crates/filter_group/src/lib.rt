@@ -1,4 +1,6 @@
 // The planes of symmetry and the reflections in them: filter.rs, `mirror_group`.
+#![tactic(auto)]
+
 ghost use Rattle.std.specs.Prelude.{◌≡◌, not, ◌≤◌, ◌<◌, length, get_or};
 ghost use Rattle.lists.specs.Lists.{choose};
 ghost use Rattle.geom.specs.Vectors as Vectors;
@@ -10,7 +12,7 @@ ghost use Rattle.filter_group.specs.Planes.{mirrors_of, stand_in};
 use geom::{Mirror, Vec3};
 
 // Up to three planes, with normals of unit length.
-#[derive(Drop)]
+#[derive(Clone, Copy)]
 pub struct Planes {
     pub count: usize,
     pub a: Mirror,

@@ -1,4 +1,6 @@
 // filter.rs: one row of the table, the elements that it has met, put in order, tested for room, weighed and written.
+#![tactic(auto)]
+
 ghost use Rattle.std.specs.Prelude.{◌≡◌, ◌+◌, ◌^◌, ◌≤◌, ◌<◌, length};
 ghost use Rattle.filter.specs.Filter.{chosen};
 ghost use Rattle.filter_group.specs.Group.{mirrors};
@@ -10,7 +12,7 @@ use filter::grid::Grid;
 use filter_group::Planes;
 
 // What became of a row: 01's number, or 0; and where it ends.
-#[derive(Drop)]
+#[derive(Clone, Copy)]
 pub struct Row {
     pub number: u32,
     pub end: usize,

@@ -1,5 +1,7 @@
 // The filter's table, a sparse matrix by rows in three lent lists (filter.rs): the test that it is well formed, and the product without tests for a table
 // that is. The products for any table are `apply` and `back`. Lists may be lent longer than the rows use.
+#![tactic(auto)]
+
 ghost use Rattle.std.specs.Prelude.{◌≡◌, ◌+◌, ◌≤◌, ◌<◌, length, get_or, ltb, leb};
 ghost use Rattle.lists.specs.Lists.{any_to};
 ghost use Rattle.filter_table.specs.Table.{row_end, row_sum, applied, Within, Wf, well_of};

@@ -1,4 +1,6 @@
 // The lists of a filter's build set to zero, to their ends. No surface of its own.
+#![tactic(auto)]
+
 ghost use Rattle.std.specs.Prelude.{◌≡◌};
 ghost use Rattle.lists.specs.Lists.{zero64};
 ghost use Rattle.lent.specs.Lent.{zeros};

@@ -1,9 +1,11 @@
 // Points, vectors and planes of symmetry: structs of f64 by value, each operation in 01's order.
+#![tactic(auto)]
+
 ghost use Rattle.std.specs.Prelude.{◌≡◌};
 ghost use Rattle.geom.specs.Vectors as Vectors;
 
 #[repr(C)]
-#[derive(Drop)]
+#[derive(Clone, Copy)]
 pub struct Vec3 {
     pub x: f64,
     pub y: f64,
@@ -121,7 +123,7 @@ impl Vec3 {
 
 // A plane: a point on it and its normal, which need not be of unit length here.
 #[repr(C)]
-#[derive(Drop)]
+#[derive(Clone, Copy)]
 pub struct Mirror {
     pub point: Vec3,
     pub normal: Vec3,

@@ -1,4 +1,6 @@
 // IEEE 754 binary64 as the optimiser uses it: the size, the order and the range of a float. Every function has a result for every input.
+#![tactic(auto)]
+
 ghost use Rattle.std.specs.Prelude.{◌≡◌};
 ghost use Rattle.ieee.specs.Basic.{abs_of, max_of, min_of, clamp_of, is_finite};
 

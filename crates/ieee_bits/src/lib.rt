@@ -1,4 +1,6 @@
 // Bit patterns of every float, NaN included, and the key of total_order.
+#![tactic(auto)]
+
 ghost use Rattle.std.specs.Prelude.{◌≡◌};
 ghost use Rattle.std.specs.Float.Ieee.{to_bits, of_bits};
 ghost use Rattle.std.specs.Float.{binary64};

@@ -1,10 +1,12 @@
 // `ieee_tanh::tanh` of eight numbers, whose divisions are under way at a time. Each is worked out as it would be alone; small ones by half of the divisions.
+#![tactic(auto)]
+
 ghost use Rattle.std.specs.Prelude.{◌≡◌, true, ◌≤◌, ◌<◌};
 ghost use Rattle.std.specs.Float.Ieee.{le};
 ghost use Rattle.ieee_tanh.specs.Tanh.{tanh_of};
 ghost use Rattle.ieee_lanes.specs.Fraction.{fraction, small_of, Between};
 
-#[derive(Drop)]
+#[derive(Clone, Copy)]
 pub struct Eight {
     pub a: f64,
     pub b: f64,
@@ -17,14 +19,14 @@ pub struct Eight {
 }
 
 // Bounds of eight numbers.
-#[derive(Drop)]
+#[derive(Clone, Copy)]
 pub struct Narrow {
     pub low: Eight,
     pub high: Eight,
 }
 
 // Where bounds begin, and where they are likely to meet.
-#[derive(Drop)]
+#[derive(Clone, Copy)]
 pub struct Span {
     pub start: u64,
     pub stop: u64,

@@ -2,6 +2,8 @@
 // A guess in floats gives the 27 leading binary digits of the root, which comparisons of integers accept; one integer division then
 // gives the other 26. No proof speaks of the guess's error: where it is refused, Newton's iteration on integers takes its place.
 // The numbers 134217728, 67108864 and 4503599627370496 are 2^27, 2^26 and 2^52.
+#![tactic(auto)]
+
 ghost use Rattle.std.specs.Prelude.{◌≡◌, ◌+◌, ◌*◌, ◌^◌, ◌<◌, ◌≤◌};
 ghost use Rattle.std.specs.Float.{binary64};
 ghost use Rattle.ieee_root.specs.Sqrt.{sqrt_of};
@@ -52,7 +54,7 @@ fn digits(s: u64, d: u64) -> u64
 }
 
 // A root s from below, and what is left of the number.
-#[derive(Drop)]
+#[derive(Clone, Copy)]
 struct Part {
     s: u64,
     d: u64,

@@ -1,4 +1,6 @@
 // The hyperbolic tangent, for every input.
+#![tactic(auto)]
+
 ghost use Rattle.std.specs.Prelude.{◌≡◌};
 ghost use Rattle.ieee_tanh.specs.Tanh.{tanh_of};
 

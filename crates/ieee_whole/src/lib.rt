@@ -1,4 +1,6 @@
 // Whole numbers near a float, as Rust's `floor`, `round` and saturating casts give them.
+#![tactic(auto)]
+
 ghost use Rattle.std.specs.Prelude.{◌≡◌};
 ghost use Rattle.ieee_whole.specs.Whole.{floor_at, round_half_away};
 

@@ -1,4 +1,6 @@
 // What every call is lent: points and planes as lists of numbers, and the tests of 01's domain. No surface of its own.
+#![tactic(auto)]
+
 ghost use Rattle.std.specs.Prelude.{◌≡◌};
 ghost use Rattle.lent.specs.Points as Points;
 ghost use Rattle.lent.specs.Domain.{outside_domain, point_bad, points_bad, plane_bad, volume_bad, volumes_bad, radius_bad, is_depth, depth_bad, depths_bad};

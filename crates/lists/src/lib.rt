@@ -1,4 +1,6 @@
 // Choices without a branch, and a sum, against `specs/Lists.antt`.
+#![tactic(auto)]
+
 ghost use Rattle.std.specs.Prelude.{◌≡◌, min, length, get_or};
 ghost use Rattle.std.specs.Float.{nan};
 ghost use Rattle.lists.specs.Lists.{sum_to, choose};

@@ -1,4 +1,6 @@
 // A mesh of ten-node tetrahedra: volumes, middles and size (mesh.rs).
+#![tactic(auto)]
+
 ghost use Rattle.std.specs.Prelude.{◌≡◌};
 ghost use Rattle.mesh.specs.Mesh as Mesh;
 ghost use Rattle.mesh.specs.Steps as Steps;
@@ -23,7 +25,7 @@ fn node(nodes: &[[f64; 3]], n: u32) -> Vec3
 }
 
 // A node times the two numbers that the rule scales it by: made once, since each product is needed at several points.
-#[derive(Drop)]
+#[derive(Clone, Copy)]
 struct Twice {
     a: Vec3,
     b: Vec3,
@@ -64,7 +66,7 @@ pub fn triple(d0: Vec3, d1: Vec3, d2: Vec3, d3: Vec3) -> f64
 }
 
 // The ten nodes of a tetrahedron.
-#[derive(Drop)]
+#[derive(Clone, Copy)]
 struct Ten {
     p0: Vec3,
     p1: Vec3,

@@ -1,4 +1,6 @@
 // mesh.rs's `block`: a box divided into cells, each into six tetrahedra, for checks that need a mesh without a mesher.
+#![tactic(auto)]
+
 ghost use Rattle.std.specs.Prelude.{◌≡◌, ltb};
 ghost use Rattle.mesh_lattice.specs.Lattice as Lattice;
 ghost use Rattle.mesh_lattice.specs.Bounds as Bounds;
@@ -9,7 +11,7 @@ use mesh_lattice::Grid;
 
 // The counts of a mesh; or the refusal, with no counts.
 #[repr(C)]
-#[derive(Drop)]
+#[derive(Clone, Copy)]
 pub struct Made {
     pub refused: u32,
     pub nodes: u32,

@@ -1,4 +1,6 @@
 // A box divided into cells, each into six tetrahedra: the nodes and the tetrahedra of mesh.rs's `block`. All of it is internal: for `mesh_block`.
+#![tactic(auto)]
+
 ghost use Rattle.std.specs.Prelude.{◌≡◌, ◌+◌, ◌≤◌, ◌<◌, max, [], length, set};
 ghost use Rattle.lists.specs.Lists.{overwrite};
 ghost use Rattle.lent.specs.Points.{stored};
@@ -9,7 +11,7 @@ ghost use Rattle.mesh_lattice.specs.Filing as Filing;
 use geom::Vec3;
 
 // The cells along each axis, and the box's size.
-#[derive(Drop)]
+#[derive(Clone, Copy)]
 pub struct Grid {
     pub nx: usize,
     pub ny: usize,
@@ -18,7 +20,7 @@ pub struct Grid {
 }
 
 // A corner of a cell.
-#[derive(Drop)]
+#[derive(Clone, Copy)]
 pub struct Corner {
     pub i: usize,
     pub j: usize,
@@ -26,7 +28,7 @@ pub struct Corner {
 }
 
 // The corners of a tetrahedron.
-#[derive(Drop)]
+#[derive(Clone, Copy)]
 pub struct Four {
     pub a: Corner,
     pub b: Corner,
@@ -224,7 +226,7 @@ fn put_node(nodes: &mut [[f64; 3]], at: usize, p: Vec3)
 }
 
 // The number of an edge's middle, and the next node's.
-#[derive(Drop)]
+#[derive(Clone, Copy)]
 struct Found {
     number: u32,
     next: usize,
@@ -259,7 +261,7 @@ fn look(
 }
 
 // The numbers of the middles of a tetrahedron's sides, and the next node's.
-#[derive(Drop)]
+#[derive(Clone, Copy)]
 struct Six {
     m0: u32,
     m1: u32,

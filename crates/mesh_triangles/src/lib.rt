@@ -1,4 +1,6 @@
 // The triangles on the sides of a box that is divided into tetrahedra (mesh.rs, `block`). Internal: for `mesh_block`.
+#![tactic(auto)]
+
 ghost use Rattle.std.specs.Prelude.{◌≡◌, ◌+◌, ◌≤◌, eqb, length, set};
 ghost use Rattle.lists.specs.Lists.{choose};
 ghost use Rattle.mesh_lattice.specs.Bounds as Bounds;
@@ -9,7 +11,7 @@ use geom::Vec3;
 use mesh_lattice::{Corner, Four, Grid};
 
 // The sides of the box that a point lies on.
-#[derive(Drop)]
+#[derive(Clone, Copy)]
 struct Touch {
     x0: bool,
     x1: bool,
@@ -60,7 +62,7 @@ fn side(p: Touch, q: Touch, r: Touch) -> u32
 }
 
 // The sides of a tetrahedron's faces 0-1-2, 0-1-3, 0-2-3, 1-2-3.
-#[derive(Drop)]
+#[derive(Clone, Copy)]
 struct Sides {
     s0: u32,
     s1: u32,

@@ -1,4 +1,6 @@
 // What the goal's share of the volume asks of a part: the volume to keep, how near, whether there is room, and the density to start at.
+#![tactic(auto)]
+
 ghost use Rattle.std.specs.Prelude.{◌≡◌};
 ghost use Rattle.oc_goal.specs.Goal.{no_room, target_of, tolerance_of, start_density};
 

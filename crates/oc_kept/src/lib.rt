@@ -1,4 +1,6 @@
 // The volume that a design keeps.
+#![tactic(auto)]
+
 ghost use Rattle.std.specs.Prelude.{◌≡◌, true, length};
 ghost use Rattle.filter_table.specs.Table.{Wf, applied};
 ghost use Rattle.oc_seen.specs.Seen.{densities};
@@ -6,7 +8,7 @@ ghost use Rattle.oc_kept.specs.Kept.{kept_of};
 
 use oc_seen::Sharpness;
 
-#[derive(Drop)]
+#[derive(Clone, Copy)]
 pub enum Rule {
     // the volume held solid, to which the design adds along the slope of the volume
     Straight(f64),

@@ -1,16 +1,18 @@
 // Sharpening, element by element: `project` of oc.rs.
+#![tactic(auto)]
+
 ghost use Rattle.std.specs.Prelude.{◌≡◌};
 ghost use Rattle.oc_project.specs.Project.{below_of, whole_of, projected, projected_slope};
 
 // Sharpening at one steepness, with what `project` works out of the steepness alone.
-#[derive(Drop)]
+#[derive(Clone, Copy)]
 pub struct Projection {
     pub beta: f64,
     pub below: f64,
     pub whole: f64,
 }
 
-#[derive(Drop)]
+#[derive(Clone, Copy)]
 pub struct Projected {
     pub density: f64,
     pub slope: f64,

@@ -1,4 +1,6 @@
 // What a round record says: work, share, change, grey, and the least and greatest free value. Each goes as far as the shortest of the lists that it reads, as Rust's `zip` does.
+#![tactic(auto)]
+
 ghost use Rattle.std.specs.Prelude.{◌≡◌};
 ghost use Rattle.oc_record.specs.Record.{dot as dot_of, compliance_of, fraction_of, change_of, grey_of, least_of, greatest_of};
 

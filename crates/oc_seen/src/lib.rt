@@ -1,9 +1,11 @@
 // What a solve is given from the design: each element's density, filtered and sharpened, solid where it must be; and how fast each moves with
 // its filtered density.
+#![tactic(auto)]
+
 ghost use Rattle.std.specs.Prelude.{◌≡◌, length};
 ghost use Rattle.oc_seen.specs.Seen.{densities, slopes, seen_density, seen_slope};
 
-#[derive(Drop)]
+#[derive(Clone, Copy)]
 pub enum Sharpness {
     Off,
     At(f64),

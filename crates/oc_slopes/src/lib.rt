@@ -1,4 +1,6 @@
 // How the work of the loads and the volume kept go with each design value, through the sharpening and the filter in turn (`work_slope` and `volume_slope` of oc.rs).
+#![tactic(auto)]
+
 ghost use Rattle.std.specs.Prelude.{◌≡◌, length};
 ghost use Rattle.oc_slopes.specs.Slopes.{element_work, work_by_density, volume_by_density, work_slope, volume_slope, straight_slope};
 

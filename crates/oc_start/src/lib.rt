@@ -1,5 +1,7 @@
 // Where a run starts: the volume held solid, each element's free volume and the first design. A function that writes a list asks that those it reads are
 // as long; one that only reads goes as far as the shortest, as Rust's `zip` does.
+#![tactic(auto)]
+
 ghost use Rattle.std.specs.Prelude.{◌≡◌, length};
 ghost use Rattle.oc_start.specs.Start.{solid_volume, free_volumes, start_design};
 

@@ -1,4 +1,6 @@
 // How far a part's boundary is from its image in a plane (region.rs, `asymmetry`).
+#![tactic(auto)]
+
 ghost use Rattle.std.specs.Prelude.{◌≡◌};
 ghost use Rattle.region_farthest.specs.Farthest.{asymmetry_of};
 ghost use Rattle.region_asymmetry.specs.Asymmetry as Spec;
@@ -6,7 +8,7 @@ ghost use Rattle.region_asymmetry.specs.Steps as Steps;
 
 use geom::Mirror;
 
-#[derive(Drop)]
+#[derive(Clone, Copy)]
 pub enum Distance {
     Refused(u32),
     Apart(f64),

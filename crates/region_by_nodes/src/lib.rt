@@ -1,4 +1,6 @@
 // Marks by nodes (region.rs, `passive`): the elements with a node that is held, loaded, or of a triangle of a kept set. Internal: lists are as long as needed.
+#![tactic(auto)]
+
 ghost use Rattle.std.specs.Prelude.{◌≡◌, true, false, [], ◌+◌, ◌-◌, ◌≤◌, ◌<◌, min, length, get_or, set};
 ghost use Rattle.lists.specs.Lists.{tabulate, overwrite};
 ghost use Rattle.region_by_nodes.specs.Nodes.{of_set, by_nodes};

@@ -1,4 +1,6 @@
 // Marks by depth (region.rs, `passive`): triangles and the cells of middles, a set's longest side, and whether a triangle is near. Internal: for `region_by_depth`.
+#![tactic(auto)]
+
 ghost use Rattle.std.specs.Prelude.{◌≡◌, [], ◌+◌, ◌≤◌, ◌<◌, length, get_or};
 ghost use Rattle.lists.specs.Lists.{tabulate};
 ghost use Rattle.lent.specs.Points.{point};
@@ -10,7 +12,7 @@ ghost use Rattle.region_cells.specs.Steps.{cell_about};
 use geom::Vec3;
 
 // A triangle's corners.
-#[derive(Drop)]
+#[derive(Clone, Copy)]
 pub struct Triangle {
     pub a: Vec3,
     pub b: Vec3,

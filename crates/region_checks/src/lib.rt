@@ -1,4 +1,6 @@
 // What every call with a boundary checks: counts, names of nodes, and the domain of nodes. No surface of its own: for `region_asymmetry` and `region_passive`.
+#![tactic(auto)]
+
 ghost use Rattle.std.specs.Prelude.{◌≡◌};
 ghost use Rattle.region_checks.specs.Boundary.{missing_in, any_missing, refusal_of};
 

@@ -1,4 +1,6 @@
 // What the optimiser works on: each element's volume and middle (region.rs, `design`).
+#![tactic(auto)]
+
 ghost use Rattle.std.specs.Prelude.{◌≡◌};
 ghost use Rattle.region_design.specs.Design.{design_refusal, Designed};
 

@@ -1,4 +1,6 @@
 // The nearest triangle to a point by the tree of boxes (region.rs, `Tree::nearest`). Internal: for `region_asymmetry`.
+#![tactic(auto)]
+
 ghost use Rattle.std.specs.Prelude.{◌≡◌};
 ghost use Rattle.geom.specs.Vectors.{vec};
 ghost use Rattle.region_tree.specs.Steps.{bounds_at, tree_in};
@@ -8,7 +10,7 @@ ghost use Rattle.region_nearest.specs.Steps.{Searchable};
 use geom::Vec3;
 
 // The least square so far, and whether the search has stopped.
-#[derive(Drop)]
+#[derive(Clone, Copy)]
 pub struct Found {
     pub best: f64,
     pub stopped: bool,

@@ -1,4 +1,6 @@
 // How far points reach to each side of a plane, where they are off its middle (region.rs, `off_centre`).
+#![tactic(auto)]
+
 ghost use Rattle.std.specs.Prelude.{◌≡◌};
 ghost use Rattle.lent.specs.Points.{flat};
 ghost use Rattle.lent.specs.Domain.{plane_bad};
@@ -6,7 +8,7 @@ ghost use Rattle.region_off_centre.specs.OffCentre as Centre;
 
 use geom::{Mirror, Vec3};
 
-#[derive(Drop)]
+#[derive(Clone, Copy)]
 pub enum Balance {
     Refused(u32),
     // About even, or no points: the Rust's None.

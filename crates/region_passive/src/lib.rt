@@ -1,6 +1,8 @@
 // Which elements must stay solid (region.rs, `passive`): those under a support or a load, and those of kept sets of surfaces, to a depth. Held and loaded
 // nodes are given by number; set s has the surfaces kept[starts[s]] .. kept[starts[s + 1] - 1] and the depth depths[s], which is none where it is not
 // finite or not above 0.
+#![tactic(auto)]
+
 mod stages;
 
 ghost use Rattle.region_passive.specs.Passive.{Marked};

@@ -1,4 +1,6 @@
 // What `region_passive::passive` is refused for. No surface of its own.
+#![tactic(auto)]
+
 ghost use Rattle.std.specs.Prelude.{◌≡◌, get_or};
 ghost use Rattle.region_passive_checks.specs.Checks.{too_short, kept_short, refusal_by};
 

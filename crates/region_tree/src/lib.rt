@@ -1,5 +1,7 @@
 // The tree of boxes over triangles (region.rs, `Tree::new` and `Tree::build`), in lent lists: the order of the triangles' numbers, and a box for
 // each part of it at the part's middle place. Internal: for `region_nearest` and `region_asymmetry`.
+#![tactic(auto)]
+
 ghost use Rattle.std.specs.Prelude.{◌≡◌, ◌≤◌, ◌<◌, length};
 ghost use Rattle.region_median.specs.Median.{rank_by, parted};
 ghost use Rattle.region_tree.specs.Tree as Tree;
@@ -7,14 +9,14 @@ ghost use Rattle.region_tree.specs.Steps as Steps;
 
 use geom::Vec3;
 
-#[derive(Drop)]
+#[derive(Clone, Copy)]
 pub struct Bounds {
     pub lo: Vec3,
     pub hi: Vec3,
 }
 
 // The three corners of a triangle.
-#[derive(Drop)]
+#[derive(Clone, Copy)]
 pub struct Face {
     pub a: Vec3,
     pub b: Vec3,

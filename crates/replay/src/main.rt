@@ -1,5 +1,7 @@
 // Replays a recorded sample of the Rust's answers: reads it from standard input, works each case out with the library and compares.
 // docs/REPLAY.md has the format, and how the sample is made.
+#![tactic(auto)]
+
 mod leaves;
 mod meshes;
 mod products;

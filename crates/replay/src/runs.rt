@@ -11,7 +11,7 @@ const ROOM: usize = 120;
 const TURNS: u64 = 122;
 
 // What the last call returned, whether a question was recorded then, and whether all was as recorded so far.
-#[derive(Drop)]
+#[derive(Clone, Copy)]
 struct Replayed {
     returned: Returned,
     asked: bool,

@@ -1,7 +1,7 @@
 // What is told of a section, and of all: how many cases, and how many differ.
 use libc::STDOUT_FILENO;
 
-#[derive(Drop)]
+#[derive(Clone, Copy)]
 pub struct Totals {
     pub cases: u64,
     pub different: u64,

@@ -1,5 +1,7 @@
 // The loop of `optimize` as questions and answers: a run is opened, and then answered question by question. Each call states its outcome for
 // every input.
+#![tactic(auto)]
+
 ghost use Rattle.run.specs.Run.{Opened, Answered};
 
 use run_plain::{Heard, Returned, State};

@@ -1,4 +1,6 @@
 // The core of an answer: every list but the history, whose record is returned with its place.
+#![tactic(auto)]
+
 mod fronts;
 
 ghost use Rattle.std.specs.Prelude.{◌≡◌, set};
@@ -10,7 +12,7 @@ use run_plain::{Course, Heard, Reply, Returned, State, Verdict};
 use topo::{Iteration, Stop};
 
 // What an answer returns, with a record and its place in the history: past the end where there is none to make.
-#[derive(Drop)]
+#[derive(Clone, Copy)]
 pub struct Step {
     pub returned: Returned,
     pub at: usize,

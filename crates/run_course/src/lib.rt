@@ -1,4 +1,6 @@
 // The stops that are tried after a round, and the state that follows it.
+#![tactic(auto)]
+
 ghost use Rattle.std.specs.Prelude.{◌≡◌, suc, ◌<◌};
 ghost use Rattle.lists.specs.Lists.{choose};
 ghost use Rattle.run_plain.specs.Formulas.{small as small_of, level as level_of};

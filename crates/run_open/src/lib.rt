@@ -1,4 +1,6 @@
 // The core of an opening: every list but the history, of which only the length counts.
+#![tactic(auto)]
+
 ghost use Rattle.std.specs.Prelude.{◌≡◌, ◌<◌, length, get_or};
 ghost use Rattle.run_open_checks.specs.Opens.{CoreOpened};
 

@@ -1,4 +1,6 @@
 // What an opening is refused with before the filter is built, in 01's order.
+#![tactic(auto)]
+
 ghost use Rattle.std.specs.Prelude.{◌≡◌, [], ◌∷◌, ◌++◌, ◌≤◌, ◌<◌, length, drop};
 ghost use Rattle.lists.specs.Lists.{overwrite};
 ghost use Rattle.ieee.specs.Basic.{one64};

@@ -1,4 +1,6 @@
 // The turn of an opening, and its last step.
+#![tactic(auto)]
+
 ghost use Rattle.std.specs.Prelude.{◌≡◌, ◌≤◌, length};
 ghost use Rattle.run_plain.specs.Calls.{in_turn};
 ghost use Rattle.run_open_last.specs.Steps.{Lastly};

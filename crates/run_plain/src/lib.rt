@@ -1,11 +1,13 @@
 // The types of the calls `open` and `answer`. What a run does is said in specs/; that every run does it is proved in proofs/.
+#![tactic(auto)]
+
 ghost use Rattle.std.specs.Prelude.{◌≡◌};
 ghost use Rattle.run_plain.specs.Calls.{ended_of};
 
 use topo::{Sharpening, Stop};
 
 // The part that a state asks for: 01's none, the solid part, a round.
-#[derive(Drop)]
+#[derive(Clone, Copy)]
 pub enum Phase {
     Idle,
     Solid,
@@ -13,7 +15,7 @@ pub enum Phase {
 }
 
 // What the solver said: it gave energies, it failed, or it stopped.
-#[derive(Drop)]
+#[derive(Clone, Copy)]
 pub enum Said {
     Gave,
     Failed,
@@ -21,7 +23,7 @@ pub enum Said {
 }
 
 // What a call returns: a refusal's number, the part that is asked for, or a stop.
-#[derive(Drop)]
+#[derive(Clone, Copy)]
 pub enum Reply {
     Refused(u32),
     Solid,
@@ -30,7 +32,7 @@ pub enum Reply {
 }
 
 // What an answer comes to: refused with nothing moved (01's kept); refused and over; stopped by the solver; the solid part solved; a round solved.
-#[derive(Drop)]
+#[derive(Clone, Copy)]
 pub enum Verdict {
     Kept(u32),
     Over(u32),
@@ -40,14 +42,14 @@ pub enum Verdict {
 }
 
 // What follows a round: the next one, or a stop.
-#[derive(Drop)]
+#[derive(Clone, Copy)]
 pub enum Course {
     Onward,
     Ends(Stop),
 }
 
 // What an opening comes to: refused with all lists kept; refused with the filter's lists and the working lists zeroed; refused by the flag; opened.
-#[derive(Drop)]
+#[derive(Clone, Copy)]
 pub enum Entry {
     Kept(u32),
     Zeroed(u32),
@@ -56,7 +58,7 @@ pub enum Entry {
 }
 
 // What an opening fixes.
-#[derive(Drop)]
+#[derive(Clone, Copy)]
 pub struct Setting {
     pub elements: usize,
     // the entries of the filter's table
@@ -67,7 +69,7 @@ pub struct Setting {
 }
 
 // How far a run is.
-#[derive(Drop)]
+#[derive(Clone, Copy)]
 pub struct Progress {
     // the records that stand
     pub rounds: usize,
@@ -78,14 +80,14 @@ pub struct Progress {
 }
 
 // The solid part's work, and the last record's.
-#[derive(Drop)]
+#[derive(Clone, Copy)]
 pub struct Compliances {
     pub solid: f64,
     pub last: f64,
 }
 
 // A run as it stands between two calls.
-#[derive(Drop)]
+#[derive(Clone, Copy)]
 pub struct State {
     pub phase: Phase,
     pub setting: Setting,
@@ -94,7 +96,7 @@ pub struct State {
 }
 
 // What an answer says beside the energies: what the solver did, whether the run is to stop, the milliseconds elapsed and allowed.
-#[derive(Drop)]
+#[derive(Clone, Copy)]
 pub struct Heard {
     pub said: Said,
     pub flag: bool,
@@ -103,7 +105,7 @@ pub struct Heard {
 }
 
 // What a call returns.
-#[derive(Drop)]
+#[derive(Clone, Copy)]
 pub struct Returned {
     pub state: State,
     pub reply: Reply,

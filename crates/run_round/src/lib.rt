@@ -1,4 +1,6 @@
 // One round over lists of one place an element: the question that it puts, and its update and record.
+#![tactic(auto)]
+
 ghost use Rattle.std.specs.Prelude.{◌≡◌, length};
 ghost use Rattle.std.specs.Float.{binary64};
 ghost use Rattle.std.specs.Float.Ieee.{div, of_bits};

@@ -1,4 +1,6 @@
 // What an answer comes to: 01's order of its checks.
+#![tactic(auto)]
+
 ghost use Rattle.std.specs.Prelude.{◌≡◌, [], ◌∷◌, ◌<◌};
 ghost use Rattle.lists.specs.Lists.{choose};
 ghost use Rattle.run_plain.specs.Lent.{answer_short};

@@ -1,4 +1,6 @@
 // Reads a job strip from standard input, runs its job, and writes what came of it to standard output. Nothing is written before the run has ended.
+#![tactic(auto)]
+
 ghost use Rattle.std.specs.Prelude.{◌≤◌, length};
 ghost use Rattle.shape_report.specs.Report.{text_of};
 ghost use Rattle.shape_report.specs.Steps.{Wrote};
@@ -10,7 +12,7 @@ use strip_stream::Reader;
 use topo::{Goal, Iteration};
 
 // What was read of a strip: its reader, and how many of its bytes are kept.
-#[derive(Drop)]
+#[derive(Clone, Copy)]
 struct Input {
     reader: Reader,
     at: usize,

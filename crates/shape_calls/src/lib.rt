@@ -1,11 +1,13 @@
 // The calls of `run` with a history of 64 records that is held by value: it is lent to the call, and comes back. Whoever calls these needs no walk
 // by hand.
+#![tactic(auto)]
+
 ghost use Rattle.run.specs.Run.{Opened, Answered};
 
 use run_plain::{Heard, Returned, State};
 use topo::{Goal, Iteration};
 
-#[derive(Drop)]
+#[derive(Clone, Copy)]
 pub struct Turn {
     pub history: [Iteration; 64],
     pub returned: Returned,

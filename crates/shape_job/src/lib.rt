@@ -1,4 +1,6 @@
 // A job run from its lists: the opening, and the answers of the solver until the run ends.
+#![tactic(auto)]
+
 ghost use Rattle.std.specs.Prelude.{◌≡◌, false, length};
 ghost use Rattle.run_plain.specs.Calls.{lists_of, answer_of, fresh as Calls·fresh};
 ghost use Rattle.run_answer.specs.Answers.{lengths_of};

@@ -1,5 +1,7 @@
 // What program `shape` prints of a run, written into a lent list: as much of the text as the list has room for. Each function tells the place after
 // what it wrote.
+#![tactic(auto)]
+
 mod parts;
 
 ghost use Rattle.std.specs.Prelude.{take};

@@ -1,4 +1,6 @@
 // The solver of program `shape`: each element a spring of its own.
+#![tactic(auto)]
+
 ghost use Rattle.std.specs.Prelude.{◌≡◌, length, get_or};
 ghost use Rattle.std.specs.Float.{nan};
 ghost use Rattle.shape_solver.specs.Energies.{energy_of, energies_of};

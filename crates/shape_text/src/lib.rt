@@ -1,4 +1,6 @@
 // What program `shape` prints of a job: the job is run, and its outcome written into a lent list.
+#![tactic(auto)]
+
 ghost use Rattle.std.specs.Prelude.{◌≡◌, false, length, take};
 ghost use Rattle.run_plain.specs.Calls.{lists_of};
 ghost use Rattle.run_answer.specs.Answers.{lengths_of};

@@ -1,4 +1,6 @@
 // One solver for up to sixteen jobs: who is granted the next question.
+#![tactic(auto)]
+
 mod checks;
 mod choice;
 
@@ -7,7 +9,7 @@ ghost use Rattle.shift.specs.Grants.{begin_of, grant_of};
 
 // What goes by value from call to call: the jobs' numbers stand at their places, and zeros past them.
 #[repr(C)]
-#[derive(Drop)]
+#[derive(Clone, Copy)]
 pub struct Shift {
     // 1 to 16
     pub jobs: u32,
@@ -19,7 +21,7 @@ pub struct Shift {
 }
 
 #[repr(C)]
-#[derive(Drop)]
+#[derive(Clone, Copy)]
 pub struct ShiftBegun {
     // 0 or 30
     pub refused: u32,
@@ -28,7 +30,7 @@ pub struct ShiftBegun {
 }
 
 #[repr(C)]
-#[derive(Drop)]
+#[derive(Clone, Copy)]
 pub struct ShiftGrant {
     // 0, or 20, 30, 31
     pub refused: u32,

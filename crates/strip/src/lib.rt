@@ -1,9 +1,11 @@
 // The job strip: what it says of a job, and its words. `strip_stream` checks a strip in parts of any size, `strip_read` reads one into lists.
+#![tactic(auto)]
+
 pub mod words;
 
 // What a strip says of the job, its lists apart. Numbers are bit patterns, so that a NaN keeps its bits.
 #[repr(C)]
-#[derive(Drop)]
+#[derive(Clone, Copy)]
 pub struct Job {
     pub elements: usize,
     // 01's share
@@ -17,7 +19,7 @@ pub struct Job {
     pub mirrors: usize,
 }
 
-#[derive(Drop)]
+#[derive(Clone, Copy)]
 pub enum Answer {
     Read(Job),
     // 22, and from `read` 14

@@ -3,7 +3,7 @@ ghost use Rattle.std.specs.Prelude.{◌≡◌};
 ghost use Rattle.strip.specs.Strip.{little_endian, number_of, part_at, head_at, field_at, place_at, stands};
 
 // What must stand at a word's place.
-#[derive(Drop)]
+#[derive(Clone, Copy)]
 pub enum Place {
     // the number of elements
     Start,

@@ -1,4 +1,6 @@
 // Bit patterns as floats: a strip's numbers become floats when its job is run.
+#![tactic(auto)]
+
 ghost use Rattle.std.specs.Prelude.{◌≡◌, ◌≤◌, length, get_or, []};
 ghost use Rattle.lists.specs.Lists.{overwrite};
 ghost use Rattle.strip_floats.specs.Floats.{float_at, point_of, plane_of};

@@ -1,4 +1,6 @@
 // What program `shape` makes of what a strip's reader said.
+#![tactic(auto)]
+
 ghost use Rattle.std.specs.Prelude.{◌≡◌};
 ghost use Rattle.strip_job.specs.Strips.{refusal_of, job_in, goal_of};
 

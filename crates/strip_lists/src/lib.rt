@@ -1,4 +1,6 @@
 // A strip's job in lists of floats.
+#![tactic(auto)]
+
 ghost use Rattle.strip.specs.Strip.{lent};
 ghost use Rattle.strip_lists.specs.Loaded.{Loaded};
 

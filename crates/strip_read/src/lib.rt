@@ -1,4 +1,6 @@
 // A job strip read as a whole, its elements and planes into lists.
+#![tactic(auto)]
+
 pub mod fill;
 
 ghost use Rattle.std.specs.Prelude.{◌≡◌};

@@ -1,4 +1,6 @@
 // The check of a job strip, in parts of any size by `begin`, `feed` and `finish`, or as a whole by `check`.
+#![tactic(auto)]
+
 ghost use Rattle.std.specs.Prelude.{◌≡◌};
 ghost use Rattle.strip.specs.Strip.{check_strip};
 ghost use Rattle.strip_stream.specs.Stream.{begun, taken, stepped, fed, finished};
@@ -7,7 +9,7 @@ use strip::{Answer, Job, words};
 
 // What is kept between two parts.
 #[repr(C)]
-#[derive(Drop)]
+#[derive(Clone, Copy)]
 pub struct Reader {
     // whether a word did not stand at its place
     pub bad: bool,

@@ -1,4 +1,6 @@
 // mod.rs: the optimiser's constants, its goal and records, and the stiffness levels that the solver is asked for.
+#![tactic(auto)]
+
 ghost use Rattle.std.specs.Prelude.{◌≡◌, true};
 ghost use Rattle.topo.specs.Levels.{modulus_of, level_of};
 ghost use Rattle.topo.specs.Stages.{sharpens as sharpens_of, early as early_of, sharpening_of, sharpening_number};
@@ -31,7 +33,7 @@ pub const LEVEL_OFF_RUN: usize = 5;
 pub const MAX_SHAPE_NODES: usize = 100_000;
 
 // Whether the design is sharpened toward solid and empty as it goes, and when the steepness moves on.
-#[derive(Drop)]
+#[derive(Clone, Copy)]
 pub enum Sharpening {
     Off,
     // after 20 rounds or a small change: mod.rs's own
@@ -41,7 +43,7 @@ pub enum Sharpening {
 }
 
 // What is asked of the optimiser. The planes are a lent list, and the time is given with each answer.
-#[derive(Drop)]
+#[derive(Clone, Copy)]
 pub struct Goal {
     // the share of the volume to keep, more than 0 and less than 1
     pub fraction: f64,
@@ -53,7 +55,7 @@ pub struct Goal {
 }
 
 // One round, as it is told.
-#[derive(Drop)]
+#[derive(Clone, Copy)]
 pub struct Iteration {
     // from 1
     pub number: usize,
@@ -72,7 +74,7 @@ pub struct Iteration {
 }
 
 // How an update ended.
-#[derive(Drop)]
+#[derive(Clone, Copy)]
 pub enum Ending {
     // the kept volume
     Met(f64),
@@ -83,7 +85,7 @@ pub enum Ending {
 }
 
 // Why a run stopped.
-#[derive(Drop)]
+#[derive(Clone, Copy)]
 pub enum Stop {
     Settled,
     LevelledOff,

@@ -1,4 +1,6 @@
 // From a stiffness back to its level. Each answer is found by halving the table of moduli.
+#![tactic(auto)]
+
 pub mod numbers;
 mod table;
 
@@ -6,7 +8,7 @@ ghost use Rattle.std.specs.Prelude.{◌≡◌};
 ghost use Rattle.topo_moduli.specs.Moduli.{level_below, level_with};
 
 // The level that is answered, or that there is none: 29.
-#[derive(Drop)]
+#[derive(Clone, Copy)]
 pub enum Level {
     At(u16),
     None,

@@ -5,7 +5,7 @@ ghost use Rattle.topo_moduli.specs.Moduli.{numbers_of};
 use crate::Level;
 
 #[repr(C)]
-#[derive(Drop)]
+#[derive(Clone, Copy)]
 pub struct LevelNumbers {
     // 0 or 29
     pub refused: u32,

@@ -1,5 +1,7 @@
 // One update of the design by the optimality criterion (`update` of oc.rs): each value moved toward where the work that it saves for the
 // volume that it costs is the same for all, by at most m, between X_MIN and 1 (1 where solid); that common rate found by halving.
+#![tactic(auto)]
+
 ghost use Rattle.std.specs.Prelude.{◌≡◌, ◌<◌, length};
 ghost use Rattle.update_design.specs.Design.{gains_of};
 ghost use Rattle.update_rates.specs.Rates.{Given, given, first_rate, updated};
@@ -10,7 +12,7 @@ use oc_kept::Rule;
 use topo::Ending;
 use update_rates::Bracket;
 
-#[derive(Drop)]
+#[derive(Clone, Copy)]
 pub struct Updated {
     pub ending: Ending,
     // how many volumes the update of the definition reckons

@@ -1,4 +1,6 @@
 // An update as it is defined, every volume reckoned.
+#![tactic(auto)]
+
 ghost use Rattle.std.specs.Prelude.{◌≡◌, true, ◌-◌, ◌≤◌, length};
 ghost use Rattle.filter_table.specs.Table.{Wf};
 ghost use Rattle.oc_kept.specs.Kept.{kept_of};

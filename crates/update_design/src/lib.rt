@@ -1,4 +1,6 @@
 // The design at a rate, by the value that each element gets; and what an update asks of designs and gains.
+#![tactic(auto)]
+
 ghost use Rattle.std.specs.Prelude.{◌≡◌, true, length};
 ghost use Rattle.update_design.specs.Design.{gains_of, design_at, most_of, same_design};
 

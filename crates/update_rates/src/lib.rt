@@ -1,4 +1,6 @@
 // What the searches for an update's rate share; the rates that it tries are defined in specs/Rates.antt.
+#![tactic(auto)]
+
 ghost use Rattle.std.specs.Prelude.{◌≡◌};
 ghost use Rattle.update_rates.specs.Ending.{ending_of};
 
@@ -8,7 +10,7 @@ use topo::Ending;
 pub const PASSES: usize = 200;
 
 // Where an update stands, beside its design: the bracket of rates, the kept volume, and how many volumes the definition has reckoned by then.
-#[derive(Drop)]
+#[derive(Clone, Copy)]
 pub struct Bracket {
     pub low: f64,
     pub high: f64,

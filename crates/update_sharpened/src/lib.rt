@@ -1,5 +1,7 @@
 // An update with sharpening. The volumes of two rates are reckoned at a time, for little more than one: that of the rate to be tried, and that of the rate
 // which is likely to come after it.
+#![tactic(auto)]
+
 ghost use Rattle.std.specs.Prelude.{◌≡◌, ◌-◌, ◌<◌, length};
 ghost use Rattle.lists.specs.Lists.{zero64};
 ghost use Rattle.filter_table.specs.Table.{Wf};
@@ -11,7 +13,7 @@ use update_rates::{Bracket, PASSES};
 
 // The volume that the rate tried keeps; the rate whose volume is reckoned ahead; and the volumes of the two designs at hand, of which the
 // second is that rate's.
-#[derive(Drop)]
+#[derive(Clone, Copy)]
 pub struct Ahead {
     pub kept: f64,
     pub next: f64,
@@ -20,7 +22,7 @@ pub struct Ahead {
 }
 
 // Where halving ends, with the last rate that it tried and the volume which that keeps.
-#[derive(Drop)]
+#[derive(Clone, Copy)]
 pub struct Reached {
     pub low: f64,
     pub high: f64,
@@ -30,7 +32,7 @@ pub struct Reached {
 }
 
 // The ends of the bracket with the volumes that they keep, as far as they are known.
-#[derive(Drop)]
+#[derive(Clone, Copy)]
 pub struct Ends {
     pub low: f64,
     pub most: f64,

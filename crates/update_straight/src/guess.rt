@@ -5,14 +5,14 @@ use crate::Known;
 use update_rates::PASSES;
 
 // About the volume that a design adds, and how fast that grows with w, the root of 1 / rate.
-#[derive(Drop)]
+#[derive(Clone, Copy)]
 pub struct Sums {
     pub volume: f64,
     pub slope: f64,
 }
 
 // Where the volume is likely to be met: the root of 1 / rate, and how fast the volume grows there.
-#[derive(Drop)]
+#[derive(Clone, Copy)]
 pub struct Where {
     pub w: f64,
     pub slope: f64,

@@ -1,5 +1,7 @@
 // An update without sharpening, with few volumes reckoned. The volume kept falls as the rate rises, so that a rate which keeps too much settles
 // every rate below it, and one which keeps too little every rate above. Two such rates are guessed, as near together as may be, and checked.
+#![tactic(auto)]
+
 mod certify;
 mod guess;
 
@@ -13,14 +15,14 @@ use oc_kept::Rule;
 use update_rates::{Bracket, PASSES};
 
 // The greatest rate known to keep too much, and the least known to keep too little.
-#[derive(Drop)]
+#[derive(Clone, Copy)]
 pub struct Known {
     pub below: f64,
     pub above: f64,
 }
 
 // Where halving ends, with the last rate that it tried.
-#[derive(Drop)]
+#[derive(Clone, Copy)]
 pub struct Tried {
     pub low: f64,
     pub high: f64,
@@ -28,7 +30,7 @@ pub struct Tried {
     pub passes: usize,
 }
 
-#[derive(Drop)]
+#[derive(Clone, Copy)]
 pub struct Side {
     pub more: bool,
     pub off: bool,

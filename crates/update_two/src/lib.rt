@@ -1,5 +1,7 @@
 // The volumes that two designs keep, sharpened, reckoned side by side: the table is read once for both. Each number is worked out as it would be
 // alone.
+#![tactic(auto)]
+
 ghost use Rattle.std.specs.Prelude.{◌≡◌, ◌+◌, ◌<◌, length, get_or, false};
 ghost use Rattle.std.specs.Float.{nan, binary64};
 ghost use Rattle.std.specs.Float.Ieee.{add, mul, div};
@@ -15,7 +17,7 @@ ghost use Rattle.update_two.specs.Part.{bent as bent_of, part};
 use oc_project::Projection;
 
 // A number of each design.
-#[derive(Drop)]
+#[derive(Clone, Copy)]
 pub struct Two {
     pub a: f64,
     pub b: f64,

@@ -1,4 +1,6 @@
 // What becomes of one element: `at` of oc.rs, and the first rate.
+#![tactic(auto)]
+
 ghost use Rattle.std.specs.Prelude.{◌≡◌};
 ghost use Rattle.std.specs.Float.{binary64};
 ghost use Rattle.std.specs.Float.Ieee.{lt, mul};

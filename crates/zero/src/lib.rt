@@ -1,4 +1,6 @@
 // Lists set to zero throughout.
+#![tactic(auto)]
+
 ghost use Rattle.std.specs.Prelude.{◌≡◌, [], ◌∷◌, length, replicate};
 ghost use Rattle.lists.specs.Lists.{zero64};
 
