@@ -1,0 +1,21 @@
+-- `sokdrib_sqrt_each` meets its contract. The invariant: the first i places hold the roots, and the rest is as lent. Assumes nothing.
+use Prim.Native.Nat.{◌-◌, ◌≤◌, min}
+use Rattle.capi.proofs.sokdrib_sqrt_each.Goals as goal
+use Rattle.ieee_root.specs.Sqrt.{sqrt_of}
+use Rattle.lists.proofs.Laws.{overwrite-none, overwrite-more}
+use Rattle.lists.specs.Lists.{overwrite}
+use borrow.Author.Rules.{rules}
+use lib.Ieee.{binary64, nan}
+use lib.ListN.{length, get_or}
+use mathlib.Core.Path.{◌≡◌, refl, sym}
+use native.Mathlib.Nat.{le_antisymm}
+use native.Mathlib.Omega.{arith}
+
+pub loop-i-init : goal.loop-i-init
+loop-i-init c = (search rules, search rules, refl, sym (overwrite-none _ _))
+
+pub loop-i-preserved : goal.loop-i-preserved
+loop-i-preserved c = (search rules, search rules, search rules, rw (c.loop-i.invariant.3, c.sqrt.ensures) (overwrite-more _ _ _ (omega arith)))
+
+pub returns : goal.returns
+returns c = cc (c.loop-i.invariant.3, c.loop-i.invariant.1, le_antisymm c.loop-i.invariant.0 c.loop-i-test.false)

@@ -1,0 +1,19 @@
+-- `filter_table::row` meets its contract. The invariant: what is added up is the sum over the places passed. Each is within by the `requires`. Assumes nothing.
+use Prim.Native.Nat.{◌-◌, ◌≤◌, ◌<◌}
+use Rattle.filter_table.proofs.Laws.{row_end-within}
+use Rattle.filter_table.proofs.row.Given as goal
+use Rattle.filter_table.specs.Table.{product, row_sum}
+use Rattle.lists.proofs.Laws.{sum_over-none, sum_over-more, get_d_any}
+use Rattle.lists.specs.Lists.{zero64, sum_over}
+use borrow.Author.Rules.{rules}
+use lib.Ieee.{nan}
+use lib.ListN.{length, get_or}
+use mathlib.Core.Path.{◌≡◌, sym}
+use native.Mathlib.Nat.{le_antisymm}
+use native.Mathlib.Omega.{arith}
+
+abbrev pub invariant-loop-k : goal.invariant-loop-k
+invariant-loop-k l = (l.from ≤ l.k) × (l.k ≤ l.to) × (l.t ≡ sum_over (product l.near l.coef l.x) l.from l.k)
+
+abbrev pub decreases-loop-k : goal.decreases-loop-k
+decreases-loop-k l = l.to - l.k

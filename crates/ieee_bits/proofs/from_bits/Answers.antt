@@ -1,0 +1,15 @@
+-- `ieee_bits::from_bits` meets its contract: a pattern above the infinity's, the sign's bit taken off, is a NaN's. Assumes nothing.
+use Rattle.ieee_bits.proofs.Patterns.{above-nan, below_nan}
+use Rattle.ieee_bits.proofs.from_bits.Goals as goal
+use borrow.Author.Rules.{rules}
+use lib.Dec.{T}
+use lib.Ieee.{of_bits, div}
+use mathlib.Core.Bool.{Bool, not}
+use mathlib.Core.Path.{sym, subst}
+
+pub returns-then-b-gt9218868437227405312 : goal.returns-then-b-gt9218868437227405312
+unfolding of_bits div
+returns-then-b-gt9218868437227405312 c = sym (above-nan c.args.b c.if-b-gt9218868437227405312.true)
+
+pub float_from_bits-result : goal.float_from_bits-result
+float_from_bits-result c = subst (λ (t : Bool). T (not t)) (sym (below_nan c.args.b c.if-b-gt9218868437227405312.false)) tt

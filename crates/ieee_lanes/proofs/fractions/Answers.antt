@@ -1,0 +1,22 @@
+-- `ieee_lanes::fractions` meets its contract: by the bounds where they meet, else turn by turn. Assumes nothing.
+use Rattle.ieee_lanes.proofs.Squeeze.{fraction-none, met}
+use Rattle.ieee_lanes.proofs.fractions.Goals as goal
+use borrow.Author.Rules.{rules}
+use lib.Ieee.{of_bits, of_int}
+use native.Mathlib.Omega.{arith}
+
+pub narrowed-n-requires : goal.narrowed-n-requires
+narrowed-n-requires c =     let s = c.all_small.ensures c.if-all_small.true in
+    (c.ends-at.ensures.0, c.ends-at.ensures.1, s.0, s.1, s.2, s.3, s.4, s.5, s.6, s.7)
+
+pub turns-requires : goal.turns-requires
+turns-requires c =     let a = c.args in
+    let n = c.narrowed-n in
+    let w = c.agree.ensures c.if-agree.true in
+    let e = c.ends-at in
+    (e.ensures.1, met a.a n.result.low.a n.result.high.a e.result.stop n.ensures.0 w.0, met a.b n.result.low.b n.result.high.b e.result.stop n.ensures.1 w.1, met a.c n.result.low.c n.result.high.c e.result.stop n.ensures.2 w.2, met a.d n.result.low.d n.result.high.d e.result.stop n.ensures.3 w.3, met a.e n.result.low.e n.result.high.e e.result.stop n.ensures.4 w.4, met a.f n.result.low.f n.result.high.f e.result.stop n.ensures.5 w.5, met a.g n.result.low.g n.result.high.g e.result.stop n.ensures.6 w.6, met a.h n.result.low.h n.result.high.h e.result.stop n.ensures.7 w.7)
+
+pub turns-requires-2 : goal.turns-requires-2
+unfolding of_bits of_int
+turns-requires-2 c =     let a = c.args in
+    (omega arith, fraction-none a.a, fraction-none a.b, fraction-none a.c, fraction-none a.d, fraction-none a.e, fraction-none a.f, fraction-none a.g, fraction-none a.h)

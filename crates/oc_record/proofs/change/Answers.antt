@@ -1,0 +1,22 @@
+-- `oc_record::change` meets its contract: the most so far is the fold over the places passed. Assumes nothing.
+use Prim.Native.Nat.{◌-◌, ◌≤◌}
+use Rattle.ieee.specs.Basic.{abs_of, max_of}
+use Rattle.lists.proofs.Laws.{fold_to-none, fold_to-more}
+use Rattle.lists.specs.Lists.{fold_to, zero64}
+use Rattle.oc_record.proofs.change.Goals as goal
+use Rattle.oc_record.specs.Record.{change_of}
+use borrow.Author.Rules.{rules}
+use lib.Ieee.{nan, binary64, sub}
+use lib.ListN.{get_or}
+use mathlib.Core.Path.{◌≡◌, sym}
+use native.Mathlib.Nat.{le_antisymm}
+
+pub loop-i-init : goal.loop-i-init
+loop-i-init c = (search rules, sym (fold_to-none _ _))
+
+pub loop-i-preserved : goal.loop-i-preserved
+loop-i-preserved c = (search rules, rw (c.max-m.ensures, c.abs.ensures, c.loop-i.invariant.1) (fold_to-more _ _ _))
+
+pub returns : goal.returns
+unfolding change_of
+returns c = cc (c.lesser-n.ensures, le_antisymm c.loop-i.invariant.0 c.loop-i-test.false)

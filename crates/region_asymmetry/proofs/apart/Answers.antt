@@ -1,0 +1,44 @@
+-- `region_asymmetry::apart` meets its contract: each stage by what the one before it left. Assumes nothing.
+use Rattle.lists.specs.Lists.{tabulate}
+use Rattle.region_asymmetry.proofs.apart.Goals as goal
+use Rattle.region_farthest.proofs.Farthest.{far-is}
+use Rattle.region_farthest.specs.Farthest.{faces_of, is_corner, whole_tree}
+use Rattle.region_tree.specs.Tree.{tree_of}
+use borrow.Author.Rules.{rules}
+use lib.ListN.{length}
+use mathlib.Core.Bool.{false}
+use mathlib.Core.Path.{◌≡◌, sym, ap, ◌∙◌}
+use native.Mathlib.Omega.{arith}
+
+pub mark-requires : goal.mark-requires
+mark-requires c = c.clear.ensures ∙ ap (tabulate (λ k. false)) (sym c.clear.auto.seen)
+
+pub build-requires : goal.build-requires
+build-requires c = let len = c.number.auto.order ∙ c.requires.order-fit in
+    record {
+      some = omega (arith, len, c.requires.some);
+      room = omega (arith, len, c.requires.scratch-fit);
+      places = c.requires.boxes-fit ∙ sym len;
+      keys-x = c.keys.ensures.0;
+      keys-y = c.keys.ensures.1;
+      keys-z = c.keys.ensures.2;
+    }
+
+pub farthest-requires : goal.farthest-requires
+farthest-requires c = let len = c.build.auto.order ∙ c.number.auto.order ∙ c.requires.order-fit in
+    (omega (arith, len, c.requires.some), c.build.auto.boxes ∙ c.requires.boxes-fit ∙ sym len, c.mark.auto.seen ∙ c.clear.auto.seen ∙ c.requires.seen-fit)
+
+pub shape_of-faces : goal.shape_of-faces
+shape_of-faces c = c.gather.auto.faces
+
+pub returns : goal.returns
+unfolding whole_tree
+returns c = let a = c.args in
+    let nodes = a.nodes.now in
+    let tris = a.tris.now in
+    let e : length a.order.now ≡ length (faces_of nodes tris) = c.requires.order-fit ∙ sym c.requires.faces-fit ∙ sym c.gather.auto.faces ∙ ap length c.gather.ensures in
+    let eN = c.number.auto.order ∙ e in
+    let eO = c.number.ensures ∙ ap (tabulate (λ k. k)) e in
+    let eT = c.build.ensures ∙ (λ i. tree_of (c.gather.ensures i) (eN i) (eO i)) in
+    let eS = c.mark.ensures ∙ ap (tabulate (is_corner tris)) (c.clear.auto.seen ∙ c.requires.seen-fit) in
+    c.farthest.ensures ∙ far-is nodes tris a.mirror _ _ _ c.gather.ensures eT eS

@@ -1,0 +1,95 @@
+-- `fill::keys` meets its contract. The loop's invariant: the triangles passed have their keys. Assumes nothing.
+use Prim.Native.Nat.{ℕ, ◌≤◌, ◌-◌}
+use Rattle.ieee_bits.specs.Bits.{total_key}
+use Rattle.lists.proofs.Laws.{overwrite-none, overwrite-more}
+use Rattle.lists.specs.Lists.{overwrite}
+use Rattle.region_farthest.proofs.Filled.{fill-map}
+use Rattle.region_farthest.proofs.fill.keys.Goals as goal
+use Rattle.region_tree.specs.Tree.{corners_of, middle_of, coordinate, keys_along}
+use lib.Ieee.{Float}
+use lib.ListN.{length, get_or, set, length-set}
+use mathlib.Core.List.{List, []}
+use mathlib.Core.Path.{◌≡◌, refl, sym, ap, ◌∙◌}
+use native.Mathlib.Nat.{le_antisymm}
+use native.Mathlib.Omega.{arith}
+
+abbrev key_at : ℕ → List Float → ℕ
+key_at a t = total_key (coordinate a (middle_of (corners_of t)))
+
+pub loop-i-init : goal.loop-i-init
+loop-i-init c = (omega arith, refl, refl, refl, sym (overwrite-none _ _), sym (overwrite-none _ _), sym (overwrite-none _ _))
+
+pub offset_bounds-faces-i : goal.offset_bounds-faces-i
+offset_bounds-faces-i c = omega arith
+
+pub bounds-faces-i : goal.bounds-faces-i
+bounds-faces-i c = omega arith
+
+pub middle-m-requires : goal.middle-m-requires
+middle-m-requires c = tt
+
+pub total_key-requires : goal.total_key-requires
+total_key-requires c = tt
+
+pub offset_bounds-kx-i : goal.offset_bounds-kx-i
+offset_bounds-kx-i c = omega (arith, c.before.before.before)
+
+pub bounds-kx-i : goal.bounds-kx-i
+bounds-kx-i c = omega (arith, c.requires, c.before.before.before)
+
+pub total_key-requires-in-loop-i : goal.total_key-requires-in-loop-i
+total_key-requires-in-loop-i c = tt
+
+pub offset_bounds-ky-i : goal.offset_bounds-ky-i
+offset_bounds-ky-i c = omega (arith, c.before.before.before.before)
+
+pub bounds-ky-i : goal.bounds-ky-i
+bounds-ky-i c = omega (arith, c.requires, c.before.before.before.before)
+
+pub total_key-requires-in-loop-i-2 : goal.total_key-requires-in-loop-i-2
+total_key-requires-in-loop-i-2 c = tt
+
+pub offset_bounds-kz-i : goal.offset_bounds-kz-i
+offset_bounds-kz-i c = omega (arith, c.before.before.before.before.before)
+
+pub bounds-kz-i : goal.bounds-kz-i
+bounds-kz-i c = omega (arith, c.requires, c.before.before.before.before.before)
+
+pub overflow_add-i : goal.overflow_add-i
+overflow_add-i c = omega (arith, c.before.before.before.before.before)
+
+pub loop-i-smaller : goal.loop-i-smaller
+loop-i-smaller c = omega (arith, c.before.before.before.before.before)
+
+pub loop-i-preserved : goal.loop-i-preserved
+unfolding coordinate
+loop-i-preserved c = let l = c.loop-i in
+    let a = c.args in
+    (
+      omega (arith, c.before.before.before.before.before),
+      simp length-set l.invariant.1,
+      simp length-set l.invariant.2,
+      simp length-set l.invariant.3,
+      (λ k. set (l.invariant.4 k) l.i ((c.total_key.ensures ∙ (λ j. total_key (c.middle-m.ensures j).x)) k)) ∙ overwrite-more (λ k. total_key (coordinate 0 (middle_of (corners_of (get_or a.faces.now k []))))) l.i a.kx.now (omega (arith, c.requires, c.before.before.before.before.before)),
+      (λ k. set (l.invariant.5 k) l.i ((c.total_key-in-loop-i.ensures ∙ (λ j. total_key (c.middle-m.ensures j).y)) k)) ∙ overwrite-more (λ k. total_key (coordinate 1 (middle_of (corners_of (get_or a.faces.now k []))))) l.i a.ky.now (omega (arith, c.requires, c.before.before.before.before.before)),
+      (λ k. set (l.invariant.6 k) l.i ((c.total_key-in-loop-i-2.ensures ∙ (λ j. total_key (c.middle-m.ensures j).z)) k)) ∙ overwrite-more (λ k. total_key (coordinate 2 (middle_of (corners_of (get_or a.faces.now k []))))) l.i a.kz.now (omega (arith, c.requires, c.before.before.before.before.before)),
+    )
+
+pub shape_of-kx : goal.shape_of-kx
+shape_of-kx c = c.loop-i.invariant.1
+
+pub shape_of-ky : goal.shape_of-ky
+shape_of-ky c = c.loop-i.invariant.2
+
+pub shape_of-kz : goal.shape_of-kz
+shape_of-kz c = c.loop-i.invariant.3
+
+pub returns : goal.returns
+unfolding keys_along
+returns c = let l = c.loop-i in
+    let a = c.args in
+    let all : l.i ≡ length a.faces.now = le_antisymm l.invariant.0 (omega arith) in (
+      l.invariant.4 ∙ ap (λ (n : ℕ). overwrite (λ k. total_key (coordinate 0 (middle_of (corners_of (get_or a.faces.now k []))))) n a.kx.now) all ∙ fill-map (key_at 0) [] a.faces.now a.kx.now c.requires.0,
+      l.invariant.5 ∙ ap (λ (n : ℕ). overwrite (λ k. total_key (coordinate 1 (middle_of (corners_of (get_or a.faces.now k []))))) n a.ky.now) all ∙ fill-map (key_at 1) [] a.faces.now a.ky.now c.requires.1,
+      l.invariant.6 ∙ ap (λ (n : ℕ). overwrite (λ k. total_key (coordinate 2 (middle_of (corners_of (get_or a.faces.now k []))))) n a.kz.now) all ∙ fill-map (key_at 2) [] a.faces.now a.kz.now c.requires.2,
+    )

@@ -1,0 +1,12 @@
+-- `fill::node` meets its contract. Assumes nothing.
+use Rattle.lent.specs.Points.{point}
+use Rattle.region_farthest.proofs.fill.node.Goals as goal
+use borrow.Author.Rules.{rules}
+use lib.Ieee.{div, of_bits}
+use lib.ListN.{get_or-eq_default}
+use mathlib.Core.List.{[]}
+use mathlib.Core.Path.{sym, ap, ◌∙◌}
+
+pub returns : goal.returns
+unfolding div of_bits
+returns c = c.new.ensures ∙ ap point (sym (get_or-eq_default c.args.nodes.now [] c.if-i-nodes.false))

@@ -1,0 +1,93 @@
+-- `region_passive::stages::by_depths` meets its contract. The invariant: what the sets passed reach is marked. Assumes nothing.
+use Prim.Native.Nat.{ℕ, ◌-◌, ◌≤◌}
+use Rattle.lent.specs.Domain.{is_depth}
+use Rattle.lists.proofs.Laws.{choose-true, choose-false}
+use Rattle.region_passive.proofs.Solid.{deepened-none, deepened-more}
+use Rattle.region_passive.proofs.stages.by_depths.Goals as goal
+use Rattle.region_passive.specs.Passive.{Problem}
+use Rattle.region_passive.specs.Steps.{deepened, deepened_to}
+use lib.Ieee.{Float, nan}
+use lib.ListN.{length, get_or}
+use mathlib.Core.List.{List, []}
+use mathlib.Core.Path.{◌≡◌, refl, sym, ap, ◌∙◌}
+use native.Mathlib.Nat.{le_antisymm}
+use native.Mathlib.Omega.{arith}
+
+-- what the sets are read from
+abbrev sets_of : List (List Float) → List (List ℕ) → List ℕ → List ℕ → List ℕ → List Float → Problem
+sets_of nodes' tris' surfaces' starts' kept' depths' = record { nodes = nodes'; tets = []; tris = tris'; surfaces = surfaces'; held = []; loaded = []; starts = starts'; kept = kept'; depths = depths' }
+
+pub loop-s-init : goal.loop-s-init
+loop-s-init c = (omega arith, refl, refl, refl, refl, refl, deepened-none _ _ _)
+
+pub offset_bounds-depths-s : goal.offset_bounds-depths-s
+offset_bounds-depths-s c = omega arith
+
+pub bounds-depths-s : goal.bounds-depths-s
+bounds-depths-s c = omega arith
+
+pub overflow_add-s : goal.overflow_add-s
+overflow_add-s c = omega arith
+
+pub is_depth-requires : goal.is_depth-requires
+is_depth-requires c = tt
+
+pub by_depth-requires : goal.by_depth-requires
+by_depth-requires c = let l = c.loop-s in
+    record { centroids_nonzero = (c.requires.some, c.requires.few, l.invariant.1 ∙ c.requires.celled, l.invariant.2 ∙ c.requires.orders, l.invariant.3 ∙ c.requires.places, l.invariant.4 ∙ c.requires.firsts, l.invariant.5 ∙ c.requires.marked); tris_in_bounds = (c.requires.surfaced, omega (arith, c.requires.begun, c.loop-s-test.true)) }
+
+pub loop-s-smaller-then-is_depth : goal.loop-s-smaller-then-is_depth
+loop-s-smaller-then-is_depth c = omega (arith, c.loop-s-test.true)
+
+pub loop-s-preserved-then-is_depth : goal.loop-s-preserved-then-is_depth
+unfolding deepened
+loop-s-preserved-then-is_depth c = let a = c.args in
+    let l = c.loop-s in
+    let t = c.by_depth in
+    let q = sets_of a.nodes.now a.tris.now a.surfaces.now a.starts.now a.kept.now a.depths.now in
+    let one : t.new.1.1.1.1.1.1.1.1.1.1.1.1.0 ≡ deepened q a.centroids.now l.s l.marks = t.ensures ∙ sym (choose-true (is_depth (get_or a.depths.now l.s nan)) _ _ (sym c.is_depth.ensures ∙ c.if-is_depth.true)) in (
+      omega (arith, c.loop-s-test.true),
+      t.auto.1.1.1.1.1.1.1.1.0 ∙ l.invariant.1,
+      t.auto.1.1.1.1.1.1.1.1.1.0 ∙ l.invariant.2,
+      t.auto.1.1.1.1.1.1.1.1.1.1.0 ∙ l.invariant.3,
+      t.auto.1.1.1.1.1.1.1.1.1.1.1.0 ∙ l.invariant.4,
+      t.auto.1.1.1.1.1.1.1.1.1.1.1.1.0 ∙ l.invariant.5,
+      one ∙ ap (deepened q a.centroids.now l.s) l.invariant.6 ∙ deepened-more q a.centroids.now l.s a.marks.now,
+    )
+
+pub loop-s-smaller : goal.loop-s-smaller
+loop-s-smaller c = omega (arith, c.loop-s-test.true)
+
+pub loop-s-preserved : goal.loop-s-preserved
+unfolding deepened
+loop-s-preserved c = let a = c.args in
+    let l = c.loop-s in
+    let q = sets_of a.nodes.now a.tris.now a.surfaces.now a.starts.now a.kept.now a.depths.now in
+    let one : l.marks ≡ deepened q a.centroids.now l.s l.marks = sym (choose-false (is_depth (get_or a.depths.now l.s nan)) _ _ (sym c.is_depth.ensures ∙ c.if-is_depth.false)) in (
+      omega (arith, c.loop-s-test.true),
+      l.invariant.1,
+      l.invariant.2,
+      l.invariant.3,
+      l.invariant.4,
+      l.invariant.5,
+      one ∙ ap (deepened q a.centroids.now l.s) l.invariant.6 ∙ deepened-more q a.centroids.now l.s a.marks.now,
+    )
+
+pub shape_of-cells : goal.shape_of-cells
+shape_of-cells c = c.loop-s.invariant.1
+
+pub shape_of-order : goal.shape_of-order
+shape_of-order c = c.loop-s.invariant.2
+
+pub shape_of-place : goal.shape_of-place
+shape_of-place c = c.loop-s.invariant.3
+
+pub shape_of-first : goal.shape_of-first
+shape_of-first c = c.loop-s.invariant.4
+
+pub shape_of-marks : goal.shape_of-marks
+shape_of-marks c = c.loop-s.invariant.5
+
+pub returns : goal.returns
+returns c = let a = c.args in
+    c.loop-s.invariant.6 ∙ ap (λ (k : ℕ). deepened_to (sets_of a.nodes.now a.tris.now a.surfaces.now a.starts.now a.kept.now a.depths.now) a.centroids.now k a.marks.now) (le_antisymm c.loop-s.invariant.0 c.loop-s-test.false)

@@ -1,0 +1,20 @@
+-- `region_passive::stages::by_depths` meets its contract. The invariant: what the sets passed reach is marked. Assumes nothing.
+use Prim.Native.Nat.{ℕ, ◌-◌, ◌≤◌}
+use Rattle.lent.specs.Domain.{is_depth}
+use Rattle.lists.proofs.Laws.{choose-true, choose-false}
+use Rattle.region_passive.proofs.Solid.{deepened-none, deepened-more}
+use Rattle.region_passive.proofs.stages.by_depths.Given as goal
+use Rattle.region_passive.specs.Passive.{Problem}
+use Rattle.region_passive.specs.Steps.{deepened, deepened_to}
+use lib.Ieee.{Float, nan}
+use lib.ListN.{length, get_or}
+use mathlib.Core.List.{List, []}
+use mathlib.Core.Path.{◌≡◌, refl, sym, ap, ◌∙◌}
+use native.Mathlib.Nat.{le_antisymm}
+use native.Mathlib.Omega.{arith}
+
+abbrev pub invariant-loop-s : goal.invariant-loop-s
+invariant-loop-s l = (l.s ≤ l.n) × (length l.cells ≡ length l.initial.cells) × (length l.order ≡ length l.initial.order) × (length l.place ≡ length l.initial.place) × (length l.first ≡ length l.initial.first) × (length l.marks ≡ length l.initial.marks) × (l.marks ≡ deepened_to (sets_of l.nodes l.tris l.surfaces l.starts l.kept l.depths) l.centroids l.s l.initial.marks)
+
+abbrev pub decreases-loop-s : goal.decreases-loop-s
+decreases-loop-s l = l.n - l.s

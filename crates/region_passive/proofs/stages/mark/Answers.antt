@@ -1,0 +1,75 @@
+-- `region_passive::stages::mark` meets its contract: by nodes, then by depths of the middles; with no elements the first is all. Assumes nothing.
+use Prim.Native.Nat.{ℕ, ◌+◌}
+use Rattle.lists.specs.Lists.{tabulate}
+use Rattle.region_by_nodes.specs.Nodes.{by_nodes}
+use Rattle.region_passive.proofs.Solid.{solid, solid-none, sets-only}
+use Rattle.region_passive.proofs.stages.mark.Goals as goal
+use Rattle.region_passive.specs.Passive.{Problem}
+use lib.ListN.{length, get_or}
+use mathlib.Core.Bool.{Bool}
+use mathlib.Core.List.{List, []}
+use mathlib.Core.Path.{◌≡◌, sym, ap, ◌∙◌}
+use native.Mathlib.Omega.{arith}
+
+-- by nodes, of as many nodes as there are flags
+by_node_lem : (s : tie.Start) (w : List Bool) → let a = s.args in
+    w ≡ tabulate (λ e. by_nodes a.tris.now a.surfaces.now a.starts.now a.kept.now a.held.now a.loaded.now (length a.depths.now) (length a.keep.now) (get_or a.tets.now e [])) (length a.tets.now)
+    → w ≡ tabulate (λ e. by_nodes a.tris.now a.surfaces.now a.starts.now a.kept.now a.held.now a.loaded.now (length a.depths.now) (length a.nodes.now) (get_or a.tets.now e [])) (length a.tets.now)
+by_node_lem s w e = let a = s.args in
+    e ∙ ap (λ (k : ℕ). tabulate (λ i. by_nodes a.tris.now a.surfaces.now a.starts.now a.kept.now a.held.now a.loaded.now (length a.depths.now) k (get_or a.tets.now i [])) (length a.tets.now)) s.requires.keeps
+
+pub by_nodes-requires : goal.by_nodes-requires
+by_nodes-requires c = (c.requires.surfaced, c.requires.begun, c.requires.marked)
+
+pub shape_of-marks-then-tets-lt1 : goal.shape_of-marks-then-tets-lt1
+shape_of-marks-then-tets-lt1 c = c.by_nodes.auto.marks
+
+pub shape_of-keep-then-tets-lt1 : goal.shape_of-keep-then-tets-lt1
+shape_of-keep-then-tets-lt1 c = c.by_nodes.auto.keep
+
+pub returns-then-tets-lt1 : goal.returns-then-tets-lt1
+returns-then-tets-lt1 c = let w = c.by_nodes.new.marks in
+    solid-none ((let a = c.args in record { nodes = a.nodes.now; tets = a.tets.now; tris = a.tris.now; surfaces = a.surfaces.now; held = a.held.now; loaded = a.loaded.now; starts = a.starts.now; kept = a.kept.now; depths = a.depths.now })) w (omega (arith, c.if-tets-lt1.true)) (by_node_lem c.before.before.before.before.before.before.before.before.before.before.before.before.before.before.before.before.before.before.before w c.by_nodes.ensures)
+
+pub centroids_of-requires : goal.centroids_of-requires
+centroids_of-requires c = c.requires.middled
+
+pub by_depths-requires : goal.by_depths-requires
+by_depths-requires c = let n = c.centroids_of.auto.centroids ∙ c.requires.middled in
+    record {
+      some = omega (arith, n, c.if-tets-lt1.false);
+      few = omega (arith, n, c.requires.few);
+      surfaced = c.requires.surfaced;
+      begun = c.requires.begun;
+      marked = c.by_nodes.auto.marks ∙ c.requires.marked ∙ sym n;
+      celled = c.requires.celled ∙ sym n;
+      orders = c.requires.orders ∙ sym n;
+      places = c.requires.places ∙ sym n;
+      firsts = c.requires.firsts ∙ (λ i. sym n i + 1);
+    }
+
+pub shape_of-marks : goal.shape_of-marks
+shape_of-marks c = c.by_depths.auto.marks ∙ c.by_nodes.auto.marks
+
+pub shape_of-keep : goal.shape_of-keep
+shape_of-keep c = c.by_nodes.auto.keep
+
+pub shape_of-centroids : goal.shape_of-centroids
+shape_of-centroids c = c.centroids_of.auto.centroids
+
+pub shape_of-cells : goal.shape_of-cells
+shape_of-cells c = c.by_depths.auto.cells
+
+pub shape_of-order : goal.shape_of-order
+shape_of-order c = c.by_depths.auto.order
+
+pub shape_of-place : goal.shape_of-place
+shape_of-place c = c.by_depths.auto.place
+
+pub shape_of-first : goal.shape_of-first
+shape_of-first c = c.by_depths.auto.first
+
+pub returns : goal.returns
+returns c = let w = c.by_nodes.new.marks in
+    solid ((let a = c.args in record { nodes = a.nodes.now; tets = a.tets.now; tris = a.tris.now; surfaces = a.surfaces.now; held = a.held.now; loaded = a.loaded.now; starts = a.starts.now; kept = a.kept.now; depths = a.depths.now })) w c.by_depths.new.marks c.centroids_of.new.centroids (by_node_lem c.before.before.before.before.before.before.before.before.before.before.before.before.before.before.before.before.before.before.before.before.before.before.before.before.before.before.before.before.before.before.before.before.before.before.before.before.before.before w c.by_nodes.ensures) c.centroids_of.ensures
+    (c.by_depths.ensures ∙ sets-only ((let a = c.args in record { nodes = a.nodes.now; tets = a.tets.now; tris = a.tris.now; surfaces = a.surfaces.now; held = a.held.now; loaded = a.loaded.now; starts = a.starts.now; kept = a.kept.now; depths = a.depths.now })) c.centroids_of.new.centroids (length c.args.depths.now) w)

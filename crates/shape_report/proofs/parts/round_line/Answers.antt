@@ -1,0 +1,34 @@
+-- `round_line` meets its contract. Assumes nothing.
+use Rattle.shape_report.proofs.Laws.{then, within, same-long}
+use Rattle.shape_report.proofs.parts.round_line.Goals as goal
+use Rattle.shape_report.specs.Report.{ascii, round_line}
+use borrow.Author.Rules.{rules}
+use mathlib.Core.Path.{◌∙◌}
+
+-- UNKNOWN
+-- slice-aggregate-words : tie.Need-slice-aggregate-words
+-- slice-aggregate-words c = search rules
+
+-- UNKNOWN
+-- slice-aggregate-words-2 : tie.Need-slice-aggregate-words-2
+-- slice-aggregate-words-2 c = search rules
+
+-- UNKNOWN
+-- slice-aggregate-words-3 : tie.Need-slice-aggregate-words-3
+-- slice-aggregate-words-3 c = search rules
+
+pub words-h-requires : goal.words-h-requires
+words-h-requires c = within c.next_bits-g.ensures
+
+pub decimal-i-requires : goal.decimal-i-requires
+decimal-i-requires c = within c.words-h.ensures
+
+pub words-requires : goal.words-requires
+words-requires c = within c.decimal-i.ensures
+
+pub shape_of-out : goal.shape_of-out
+shape_of-out c = same-long c.words.ensures ∙ same-long c.decimal-i.ensures ∙ same-long c.words-h.ensures ∙ same-long c.next_bits-g.ensures ∙ same-long c.next_bits-f.ensures ∙ same-long c.next_bits-e.ensures ∙ same-long c.next_bits-d.ensures ∙ same-long c.next_bits-c.ensures ∙ same-long c.decimal-b.ensures ∙ same-long c.words-a.ensures
+
+pub returns : goal.returns
+unfolding ascii round_line
+returns c = then c.words-a.ensures (then c.decimal-b.ensures (then c.next_bits-c.ensures (then c.next_bits-d.ensures (then c.next_bits-e.ensures (then c.next_bits-f.ensures (then c.next_bits-g.ensures (then c.words-h.ensures (then c.decimal-i.ensures c.words.ensures))))))))

@@ -1,0 +1,47 @@
+-- `stop_name` meets its contract. Assumes nothing.
+use Rattle.shape_report.proofs.Laws.{retext}
+use Rattle.shape_report.proofs.parts.stop_name.Goals as goal
+use Rattle.shape_report.specs.Report.{ascii, stop_name}
+use Rattle.topo.specs.declared.Stop.{Stop}
+use borrow.Author.Rules.{rules}
+use mathlib.Core.Path.{ap, sym}
+
+-- UNKNOWN
+-- slice-aggregate-words : tie.Need-slice-aggregate-words
+-- slice-aggregate-words c = search rules
+
+-- UNKNOWN
+-- slice-aggregate-words-2 : tie.Need-slice-aggregate-words-2
+-- slice-aggregate-words-2 c = search rules
+
+-- UNKNOWN
+-- slice-aggregate-words-3 : tie.Need-slice-aggregate-words-3
+-- slice-aggregate-words-3 c = search rules
+
+-- UNKNOWN
+-- slice-aggregate-words-4 : tie.Need-slice-aggregate-words-4
+-- slice-aggregate-words-4 c = search rules
+
+-- UNKNOWN
+-- slice-aggregate-words-5 : tie.Need-slice-aggregate-words-5
+-- slice-aggregate-words-5 c = search rules
+
+pub returns-in-Settled : goal.returns-in-Settled
+unfolding ascii
+returns-in-Settled c = retext (ap (λ (s : Stop). ascii (stop_name s)) (sym c.in-Settled.is)) c.words.ensures
+
+pub returns-in-LevelledOff : goal.returns-in-LevelledOff
+unfolding ascii
+returns-in-LevelledOff c = retext (ap (λ (s : Stop). ascii (stop_name s)) (sym c.in-LevelledOff.is)) c.words-in-LevelledOff.ensures
+
+pub returns-in-Limit : goal.returns-in-Limit
+unfolding ascii
+returns-in-Limit c = retext (ap (λ (s : Stop). ascii (stop_name s)) (sym c.in-Limit.is)) c.words-in-Limit.ensures
+
+pub returns-in-Budget : goal.returns-in-Budget
+unfolding ascii
+returns-in-Budget c = retext (ap (λ (s : Stop). ascii (stop_name s)) (sym c.in-Budget.is)) c.words-in-Budget.ensures
+
+pub returns-in-Stopped : goal.returns-in-Stopped
+unfolding ascii
+returns-in-Stopped c = retext (ap (λ (s : Stop). ascii (stop_name s)) (sym c.in-Stopped.is)) c.words-in-Stopped.ensures

@@ -1,0 +1,15 @@
+-- `limit_of` meets its contract: past its end a list reads as zeros. Assumes nothing.
+use Rattle.shift.proofs.checks.limit_of.Goals as goal
+use Rattle.shift.specs.Grants.{limit_of}
+use borrow.Author.Rules.{rules}
+use lib.ListN.{get_or-eq_default}
+use mathlib.Core.List.{[]}
+use mathlib.Core.Path.{refl}
+
+pub returns-then-j-jobs : goal.returns-then-j-jobs
+unfolding limit_of
+returns-then-j-jobs c = refl
+
+pub returns : goal.returns
+unfolding limit_of
+returns c = rw (get_or-eq_default c.args.jobs.now [] c.if-j-jobs.false)

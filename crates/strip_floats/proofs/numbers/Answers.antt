@@ -1,0 +1,38 @@
+-- `numbers` meets its contract. The invariant: the places passed are overwritten. Assumes nothing.
+use Prim.Native.Nat.{◌-◌, ◌≤◌}
+use Rattle.lists.proofs.Laws.{overwrite-none, overwrite-more}
+use Rattle.lists.specs.Lists.{overwrite}
+use Rattle.strip_floats.proofs.numbers.Goals as goal
+use Rattle.strip_floats.specs.Floats.{float_at}
+use borrow.Author.Rules.{rules}
+use lib.ListN.{length}
+use mathlib.Core.Path.{◌≡◌, refl, sym}
+use native.Mathlib.Nat.{le_antisymm}
+use native.Mathlib.Omega.{arith}
+
+pub loop-i-init : goal.loop-i-init
+loop-i-init c = (search rules, refl, sym (overwrite-none _ _))
+
+pub bounds-from-i : goal.bounds-from-i
+bounds-from-i c = omega arith
+
+pub from_bits-requires : goal.from_bits-requires
+from_bits-requires c = tt
+
+pub bounds-to-i : goal.bounds-to-i
+bounds-to-i c = omega arith
+
+pub overflow_add-i : goal.overflow_add-i
+overflow_add-i c = omega arith
+
+pub loop-i-smaller : goal.loop-i-smaller
+loop-i-smaller c = omega arith
+
+pub loop-i-preserved : goal.loop-i-preserved
+loop-i-preserved c = (omega arith, search rules, rw (c.loop-i.invariant.2, c.from_bits.ensures) (overwrite-more _ _ _ (omega arith)))
+
+pub shape_of-to : goal.shape_of-to
+shape_of-to c = c.loop-i.invariant.1
+
+pub returns : goal.returns
+returns c = cc (le_antisymm c.loop-i.invariant.0 c.loop-i-test.false)
