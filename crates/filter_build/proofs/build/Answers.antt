@@ -54,13 +54,10 @@ shape_of-bits-then-number-gt0 c = c.wipe_work.auto.bits ∙ c.fill_front-number.
 pub returns-then-number-gt0 : goal.returns-then-number-gt0
 returns-then-number-gt0 c = let a = c.args in
     let r = c.refusal-early in
-    let f = c.fill_front-number in
-    let t = c.wipe_table in
-    let w = c.wipe_work in
-    wipes a.centroids.now a.volumes.now a.radius a.planes.now (record { starts = a.starts.now; near = a.near.now; coef = a.coef.now; cell = a.cell.now; order = a.order.now; first = a.first.now; sorted = a.sorted.now; stamp = a.stamp.now; weight = a.weight.now; found = a.found.now; bits = a.bits.now }) f.result (record { starts = t.new.0; near = t.new.1.0; coef = t.new.1.1.0; cell = w.new.0; order = w.new.1.0; first = w.new.1.1.0; sorted = w.new.1.1.1.0; stamp = w.new.1.1.1.1.0; weight = w.new.1.1.1.1.1.0; found = w.new.1.1.1.1.1.1.0; bits = w.new.1.1.1.1.1.1.1.0 })
-    (sym r.ensures ∙ at-most-zero r.result c.if-early-gt0.false) f.ensures.0.numbers c.if-number-gt0.true
-    (t.ensures.0 ∙ ap (λ (k : ℕ). replicate k 0) f.auto.1.1.1.1.0) (t.ensures.1 ∙ ap (λ (k : ℕ). replicate k 0) f.auto.1.1.1.1.1.0) (t.ensures.2 ∙ ap (λ (k : ℕ). replicate k zero64) f.auto.1.1.1.1.1.1.0)
-    (record { cells = w.ensures.cells ∙ ap (λ (k : ℕ). replicate k (0 ∷ 0 ∷ 0 ∷ [])) f.auto.1.1.1.1.1.1.1.0; orders = w.ensures.orders ∙ ap (λ (k : ℕ). replicate k 0) f.auto.1.1.1.1.1.1.1.1.0; firsts = w.ensures.firsts ∙ ap (λ (k : ℕ). replicate k 0) f.auto.1.1.1.1.1.1.1.1.1.0; sorteds = w.ensures.sorteds ∙ ap (λ (k : ℕ). replicate k (zero64 ∷ zero64 ∷ zero64 ∷ [])) f.auto.1.1.1.1.1.1.1.1.1.1.0; stamps = w.ensures.stamps ∙ ap (λ (k : ℕ). replicate k 0) f.auto.1.1.1.1.1.1.1.1.1.1.1.0; weights = w.ensures.weights ∙ ap (λ (k : ℕ). replicate k zero64) f.auto.1.1.1.1.1.1.1.1.1.1.1.1.0; founds = w.ensures.founds ∙ ap (λ (k : ℕ). replicate k 0) f.auto.1.1.1.1.1.1.1.1.1.1.1.1.1.0; maps = w.ensures.maps ∙ ap (λ (k : ℕ). replicate k 0) f.auto.1.1.1.1.1.1.1.1.1.1.1.1.1.1.0 })
+    wipes a.centroids.now a.volumes.now a.radius a.planes.now (record { starts = a.starts.now; near = a.near.now; coef = a.coef.now; cell = a.cell.now; order = a.order.now; first = a.first.now; sorted = a.sorted.now; stamp = a.stamp.now; weight = a.weight.now; found = a.found.now; bits = a.bits.now }) c.fill_front-number.result (record { starts = c.wipe_table.new.starts; near = c.wipe_table.new.near; coef = c.wipe_table.new.coef; cell = c.wipe_work.new.cell; order = c.wipe_work.new.order; first = c.wipe_work.new.first; sorted = c.wipe_work.new.sorted; stamp = c.wipe_work.new.stamp; weight = c.wipe_work.new.weight; found = c.wipe_work.new.found; bits = c.wipe_work.new.bits })
+    (sym r.ensures ∙ at-most-zero r.result c.if-early-gt0.false) c.fill_front-number.ensures.filled.numbers c.if-number-gt0.true
+    (c.wipe_table.ensures.0 ∙ ap (λ (k : ℕ). replicate k 0) c.fill_front-number.auto.starts) (c.wipe_table.ensures.1 ∙ ap (λ (k : ℕ). replicate k 0) c.fill_front-number.auto.near) (c.wipe_table.ensures.2 ∙ ap (λ (k : ℕ). replicate k zero64) c.fill_front-number.auto.coef)
+    (record { cells = c.wipe_work.ensures.cells ∙ ap (λ (k : ℕ). replicate k (0 ∷ 0 ∷ 0 ∷ [])) c.fill_front-number.auto.cell; orders = c.wipe_work.ensures.orders ∙ ap (λ (k : ℕ). replicate k 0) c.fill_front-number.auto.order; firsts = c.wipe_work.ensures.firsts ∙ ap (λ (k : ℕ). replicate k 0) c.fill_front-number.auto.first; sorteds = c.wipe_work.ensures.sorteds ∙ ap (λ (k : ℕ). replicate k (zero64 ∷ zero64 ∷ zero64 ∷ [])) c.fill_front-number.auto.sorted; stamps = c.wipe_work.ensures.stamps ∙ ap (λ (k : ℕ). replicate k 0) c.fill_front-number.auto.stamp; weights = c.wipe_work.ensures.weights ∙ ap (λ (k : ℕ). replicate k zero64) c.fill_front-number.auto.weight; founds = c.wipe_work.ensures.founds ∙ ap (λ (k : ℕ). replicate k 0) c.fill_front-number.auto.found; maps = c.wipe_work.ensures.maps ∙ ap (λ (k : ℕ). replicate k 0) c.fill_front-number.auto.bits })
 
 pub shape_of-starts : goal.shape_of-starts
 shape_of-starts c = c.fill_front-number.auto.starts
@@ -98,8 +95,7 @@ shape_of-bits c = c.fill_front-number.auto.bits
 pub returns : goal.returns
 returns c = let a = c.args in
     let r = c.refusal-early in
-    let f = c.fill_front-number in
     let before = sym r.ensures ∙ at-most-zero r.result c.if-early-gt0.false in
-    builds a.centroids.now a.volumes.now a.radius a.planes.now (record { starts = a.starts.now; near = a.near.now; coef = a.coef.now; cell = a.cell.now; order = a.order.now; first = a.first.now; sorted = a.sorted.now; stamp = a.stamp.now; weight = a.weight.now; found = a.found.now; bits = a.bits.now }) (record { starts = f.new.1.1.1.1.0; near = f.new.1.1.1.1.1.0; coef = f.new.1.1.1.1.1.1.0; cell = f.new.1.1.1.1.1.1.1.0; order = f.new.1.1.1.1.1.1.1.1.0; first = f.new.1.1.1.1.1.1.1.1.1.0; sorted = f.new.1.1.1.1.1.1.1.1.1.1.0; stamp = f.new.1.1.1.1.1.1.1.1.1.1.1.0; weight = f.new.1.1.1.1.1.1.1.1.1.1.1.1.0; found = f.new.1.1.1.1.1.1.1.1.1.1.1.1.1.0; bits = f.new.1.1.1.1.1.1.1.1.1.1.1.1.1.1.0 })
-    before (roomy a.centroids.now a.volumes.now a.radius a.planes.now (length a.starts.now) (length a.cell.now) (length a.order.now) (length a.first.now) (length a.sorted.now) (length a.stamp.now) (length a.weight.now) (length a.found.now) (length a.bits.now) before).begun (filled a.centroids.now a.radius a.planes.now a.volumes.now a.starts.now a.near.now a.coef.now f.result f.new.1.1.1.1.0 f.new.1.1.1.1.1.0 f.new.1.1.1.1.1.1.0 c.if-number-gt0.false f.ensures.0) f.ensures.1
-    f.auto.1.1.1.1.1.1.1.0 f.auto.1.1.1.1.1.1.1.1.0 f.auto.1.1.1.1.1.1.1.1.1.0 f.auto.1.1.1.1.1.1.1.1.1.1.0 f.auto.1.1.1.1.1.1.1.1.1.1.1.0 f.auto.1.1.1.1.1.1.1.1.1.1.1.1.0 f.auto.1.1.1.1.1.1.1.1.1.1.1.1.1.0 f.auto.1.1.1.1.1.1.1.1.1.1.1.1.1.1.0
+    builds a.centroids.now a.volumes.now a.radius a.planes.now (record { starts = a.starts.now; near = a.near.now; coef = a.coef.now; cell = a.cell.now; order = a.order.now; first = a.first.now; sorted = a.sorted.now; stamp = a.stamp.now; weight = a.weight.now; found = a.found.now; bits = a.bits.now }) (record { starts = c.fill_front-number.new.starts; near = c.fill_front-number.new.near; coef = c.fill_front-number.new.coef; cell = c.fill_front-number.new.cell; order = c.fill_front-number.new.order; first = c.fill_front-number.new.first; sorted = c.fill_front-number.new.sorted; stamp = c.fill_front-number.new.stamp; weight = c.fill_front-number.new.weight; found = c.fill_front-number.new.found; bits = c.fill_front-number.new.bits })
+    before (roomy a.centroids.now a.volumes.now a.radius a.planes.now (length a.starts.now) (length a.cell.now) (length a.order.now) (length a.first.now) (length a.sorted.now) (length a.stamp.now) (length a.weight.now) (length a.found.now) (length a.bits.now) before).begun (filled a.centroids.now a.radius a.planes.now a.volumes.now a.starts.now a.near.now a.coef.now c.fill_front-number.result c.fill_front-number.new.starts c.fill_front-number.new.near c.fill_front-number.new.coef c.if-number-gt0.false c.fill_front-number.ensures.filled) c.fill_front-number.ensures.past
+    c.fill_front-number.auto.cell c.fill_front-number.auto.order c.fill_front-number.auto.first c.fill_front-number.auto.sorted c.fill_front-number.auto.stamp c.fill_front-number.auto.weight c.fill_front-number.auto.found c.fill_front-number.auto.bits

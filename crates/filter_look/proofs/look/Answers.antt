@@ -17,7 +17,7 @@ use mathlib.Core.Path.{◌≡◌, sym, ap, ◌∙◌}
 
 pub returns-then-limit-d2 : goal.returns-then-limit-d2
 returns-then-limit-d2 c = let g = c.args.g in
-    (let h : ((let a = c.args in let cell = a.cell.now in box_cell (axis cell ((get_or c.args.order.now c.args.k 0)) 0) (axis cell ((get_or c.args.order.now c.args.k 0)) 1) (axis cell ((get_or c.args.order.now c.args.k 0)) 2) a.x (a.x + 1) a.y (a.y + 1) a.z0 (a.z1 + 1)) && (lt (dist c.args.q ((point (get_or c.args.sorted.now c.args.k [])))) c.args.g.radius)) ≡ false → let a = c.args in Looked (((let a = c.args in let cell = a.cell.now in box_cell (axis cell ((get_or c.args.order.now c.args.k 0)) 0) (axis cell ((get_or c.args.order.now c.args.k 0)) 1) (axis cell ((get_or c.args.order.now c.args.k 0)) 2) a.x (a.x + 1) a.y (a.y + 1) a.z0 (a.z1 + 1)) && (lt (dist c.args.q ((point (get_or c.args.sorted.now c.args.k [])))) c.args.g.radius))) ((get_or c.args.order.now c.args.k 0)) (left_over a.g a.q a.k a.sorted.now) a.mark a.stamp.now a.weight.now a.stamp.now a.weight.now a.count = λ e. let a = c.args in looked-past (((let a = c.args in let cell = a.cell.now in box_cell (axis cell ((get_or c.args.order.now c.args.k 0)) 0) (axis cell ((get_or c.args.order.now c.args.k 0)) 1) (axis cell ((get_or c.args.order.now c.args.k 0)) 2) a.x (a.x + 1) a.y (a.y + 1) a.z0 (a.z1 + 1)) && (lt (dist c.args.q ((point (get_or c.args.sorted.now c.args.k [])))) c.args.g.radius))) ((get_or c.args.order.now c.args.k 0)) (left_over a.g a.q a.k a.sorted.now) a.mark a.stamp.now a.weight.now a.count e c.requires.1.counted in h) (and-right-false ((let a = c.args in let cell = a.cell.now in box_cell (axis cell ((get_or c.args.order.now c.args.k 0)) 0) (axis cell ((get_or c.args.order.now c.args.k 0)) 1) (axis cell ((get_or c.args.order.now c.args.k 0)) 2) a.x (a.x + 1) a.y (a.y + 1) a.z0 (a.z1 + 1))) ((lt (dist c.args.q ((point (get_or c.args.sorted.now c.args.k [])))) c.args.g.radius)) (far g.radius g.limit c.args.q ((point (get_or c.args.sorted.now c.args.k []))) c.dist2-d2.result c.requires.0.0 c.dist2-d2.ensures c.if-limit-d2.true))
+    (let h : ((let a = c.args in let cell = a.cell.now in box_cell (axis cell ((get_or c.args.order.now c.args.k 0)) 0) (axis cell ((get_or c.args.order.now c.args.k 0)) 1) (axis cell ((get_or c.args.order.now c.args.k 0)) 2) a.x (a.x + 1) a.y (a.y + 1) a.z0 (a.z1 + 1)) && (lt (dist c.args.q ((point (get_or c.args.sorted.now c.args.k [])))) c.args.g.radius)) ≡ false → let a = c.args in Looked (((let a = c.args in let cell = a.cell.now in box_cell (axis cell ((get_or c.args.order.now c.args.k 0)) 0) (axis cell ((get_or c.args.order.now c.args.k 0)) 1) (axis cell ((get_or c.args.order.now c.args.k 0)) 2) a.x (a.x + 1) a.y (a.y + 1) a.z0 (a.z1 + 1)) && (lt (dist c.args.q ((point (get_or c.args.sorted.now c.args.k [])))) c.args.g.radius))) ((get_or c.args.order.now c.args.k 0)) (left_over a.g a.q a.k a.sorted.now) a.mark a.stamp.now a.weight.now a.stamp.now a.weight.now a.count = λ e. let a = c.args in looked-past (((let a = c.args in let cell = a.cell.now in box_cell (axis cell ((get_or c.args.order.now c.args.k 0)) 0) (axis cell ((get_or c.args.order.now c.args.k 0)) 1) (axis cell ((get_or c.args.order.now c.args.k 0)) 2) a.x (a.x + 1) a.y (a.y + 1) a.z0 (a.z1 + 1)) && (lt (dist c.args.q ((point (get_or c.args.sorted.now c.args.k [])))) c.args.g.radius))) ((get_or c.args.order.now c.args.k 0)) (left_over a.g a.q a.k a.sorted.now) a.mark a.stamp.now a.weight.now a.count e c.requires.lists.counted in h) (and-right-false ((let a = c.args in let cell = a.cell.now in box_cell (axis cell ((get_or c.args.order.now c.args.k 0)) 0) (axis cell ((get_or c.args.order.now c.args.k 0)) 1) (axis cell ((get_or c.args.order.now c.args.k 0)) 2) a.x (a.x + 1) a.y (a.y + 1) a.z0 (a.z1 + 1))) ((lt (dist c.args.q ((point (get_or c.args.sorted.now c.args.k [])))) c.args.g.radius)) (far g.radius g.limit c.args.q ((point (get_or c.args.sorted.now c.args.k []))) c.dist2-d2.result c.requires.settles.0 c.dist2-d2.ensures c.if-limit-d2.true))
 
 pub returns-then-d-radius : goal.returns-then-d-radius
 returns-then-d-radius c = let a = c.args in
@@ -31,7 +31,7 @@ returns-then-d-radius c = let a = c.args in
 pub returns-then-in_column : goal.returns-then-in_column
 returns-then-in_column c = let a = c.args in
     let d : c.sqrt-d.result ≡ dist a.q ((point (get_or c.args.sorted.now c.args.k []))) = c.sqrt-d.ensures ∙ dist-is a.q ((point (get_or c.args.sorted.now c.args.k []))) c.dist2-d2.result c.dist2-d2.ensures in
-    (let h : ((let a = c.args in let cell = a.cell.now in box_cell (axis cell ((get_or c.args.order.now c.args.k 0)) 0) (axis cell ((get_or c.args.order.now c.args.k 0)) 1) (axis cell ((get_or c.args.order.now c.args.k 0)) 2) a.x (a.x + 1) a.y (a.y + 1) a.z0 (a.z1 + 1)) && (lt (dist c.args.q ((point (get_or c.args.sorted.now c.args.k [])))) c.args.g.radius)) ≡ false → let a = c.args in Looked (((let a = c.args in let cell = a.cell.now in box_cell (axis cell ((get_or c.args.order.now c.args.k 0)) 0) (axis cell ((get_or c.args.order.now c.args.k 0)) 1) (axis cell ((get_or c.args.order.now c.args.k 0)) 2) a.x (a.x + 1) a.y (a.y + 1) a.z0 (a.z1 + 1)) && (lt (dist c.args.q ((point (get_or c.args.sorted.now c.args.k [])))) c.args.g.radius))) ((get_or c.args.order.now c.args.k 0)) (left_over a.g a.q a.k a.sorted.now) a.mark a.stamp.now a.weight.now a.stamp.now a.weight.now a.count = λ e. let a = c.args in looked-past (((let a = c.args in let cell = a.cell.now in box_cell (axis cell ((get_or c.args.order.now c.args.k 0)) 0) (axis cell ((get_or c.args.order.now c.args.k 0)) 1) (axis cell ((get_or c.args.order.now c.args.k 0)) 2) a.x (a.x + 1) a.y (a.y + 1) a.z0 (a.z1 + 1)) && (lt (dist c.args.q ((point (get_or c.args.sorted.now c.args.k [])))) c.args.g.radius))) ((get_or c.args.order.now c.args.k 0)) (left_over a.g a.q a.k a.sorted.now) a.mark a.stamp.now a.weight.now a.count e c.requires.1.counted in h) (and-right-false ((let a = c.args in let cell = a.cell.now in box_cell (axis cell ((get_or c.args.order.now c.args.k 0)) 0) (axis cell ((get_or c.args.order.now c.args.k 0)) 1) (axis cell ((get_or c.args.order.now c.args.k 0)) 2) a.x (a.x + 1) a.y (a.y + 1) a.z0 (a.z1 + 1))) ((lt (dist c.args.q ((point (get_or c.args.sorted.now c.args.k [])))) c.args.g.radius)) (ap (λ (v : Float). lt v a.g.radius) (sym d) ∙ c.if-d-radius.false))
+    (let h : ((let a = c.args in let cell = a.cell.now in box_cell (axis cell ((get_or c.args.order.now c.args.k 0)) 0) (axis cell ((get_or c.args.order.now c.args.k 0)) 1) (axis cell ((get_or c.args.order.now c.args.k 0)) 2) a.x (a.x + 1) a.y (a.y + 1) a.z0 (a.z1 + 1)) && (lt (dist c.args.q ((point (get_or c.args.sorted.now c.args.k [])))) c.args.g.radius)) ≡ false → let a = c.args in Looked (((let a = c.args in let cell = a.cell.now in box_cell (axis cell ((get_or c.args.order.now c.args.k 0)) 0) (axis cell ((get_or c.args.order.now c.args.k 0)) 1) (axis cell ((get_or c.args.order.now c.args.k 0)) 2) a.x (a.x + 1) a.y (a.y + 1) a.z0 (a.z1 + 1)) && (lt (dist c.args.q ((point (get_or c.args.sorted.now c.args.k [])))) c.args.g.radius))) ((get_or c.args.order.now c.args.k 0)) (left_over a.g a.q a.k a.sorted.now) a.mark a.stamp.now a.weight.now a.stamp.now a.weight.now a.count = λ e. let a = c.args in looked-past (((let a = c.args in let cell = a.cell.now in box_cell (axis cell ((get_or c.args.order.now c.args.k 0)) 0) (axis cell ((get_or c.args.order.now c.args.k 0)) 1) (axis cell ((get_or c.args.order.now c.args.k 0)) 2) a.x (a.x + 1) a.y (a.y + 1) a.z0 (a.z1 + 1)) && (lt (dist c.args.q ((point (get_or c.args.sorted.now c.args.k [])))) c.args.g.radius))) ((get_or c.args.order.now c.args.k 0)) (left_over a.g a.q a.k a.sorted.now) a.mark a.stamp.now a.weight.now a.count e c.requires.lists.counted in h) (and-right-false ((let a = c.args in let cell = a.cell.now in box_cell (axis cell ((get_or c.args.order.now c.args.k 0)) 0) (axis cell ((get_or c.args.order.now c.args.k 0)) 1) (axis cell ((get_or c.args.order.now c.args.k 0)) 2) a.x (a.x + 1) a.y (a.y + 1) a.z0 (a.z1 + 1))) ((lt (dist c.args.q ((point (get_or c.args.sorted.now c.args.k [])))) c.args.g.radius)) (ap (λ (v : Float). lt v a.g.radius) (sym d) ∙ c.if-d-radius.false))
 
 pub returns : goal.returns
-returns c = (let h : ((let a = c.args in let cell = a.cell.now in box_cell (axis cell ((get_or c.args.order.now c.args.k 0)) 0) (axis cell ((get_or c.args.order.now c.args.k 0)) 1) (axis cell ((get_or c.args.order.now c.args.k 0)) 2) a.x (a.x + 1) a.y (a.y + 1) a.z0 (a.z1 + 1)) && (lt (dist c.args.q ((point (get_or c.args.sorted.now c.args.k [])))) c.args.g.radius)) ≡ false → let a = c.args in Looked (((let a = c.args in let cell = a.cell.now in box_cell (axis cell ((get_or c.args.order.now c.args.k 0)) 0) (axis cell ((get_or c.args.order.now c.args.k 0)) 1) (axis cell ((get_or c.args.order.now c.args.k 0)) 2) a.x (a.x + 1) a.y (a.y + 1) a.z0 (a.z1 + 1)) && (lt (dist c.args.q ((point (get_or c.args.sorted.now c.args.k [])))) c.args.g.radius))) ((get_or c.args.order.now c.args.k 0)) (left_over a.g a.q a.k a.sorted.now) a.mark a.stamp.now a.weight.now a.stamp.now a.weight.now a.count = λ e. let a = c.args in looked-past (((let a = c.args in let cell = a.cell.now in box_cell (axis cell ((get_or c.args.order.now c.args.k 0)) 0) (axis cell ((get_or c.args.order.now c.args.k 0)) 1) (axis cell ((get_or c.args.order.now c.args.k 0)) 2) a.x (a.x + 1) a.y (a.y + 1) a.z0 (a.z1 + 1)) && (lt (dist c.args.q ((point (get_or c.args.sorted.now c.args.k [])))) c.args.g.radius))) ((get_or c.args.order.now c.args.k 0)) (left_over a.g a.q a.k a.sorted.now) a.mark a.stamp.now a.weight.now a.count e c.requires.1.counted in h) (and-left-false ((let a = c.args in let cell = a.cell.now in box_cell (axis cell ((get_or c.args.order.now c.args.k 0)) 0) (axis cell ((get_or c.args.order.now c.args.k 0)) 1) (axis cell ((get_or c.args.order.now c.args.k 0)) 2) a.x (a.x + 1) a.y (a.y + 1) a.z0 (a.z1 + 1))) ((lt (dist c.args.q ((point (get_or c.args.sorted.now c.args.k [])))) c.args.g.radius)) (sym c.in_column.ensures ∙ c.if-in_column.false))
+returns c = (let h : ((let a = c.args in let cell = a.cell.now in box_cell (axis cell ((get_or c.args.order.now c.args.k 0)) 0) (axis cell ((get_or c.args.order.now c.args.k 0)) 1) (axis cell ((get_or c.args.order.now c.args.k 0)) 2) a.x (a.x + 1) a.y (a.y + 1) a.z0 (a.z1 + 1)) && (lt (dist c.args.q ((point (get_or c.args.sorted.now c.args.k [])))) c.args.g.radius)) ≡ false → let a = c.args in Looked (((let a = c.args in let cell = a.cell.now in box_cell (axis cell ((get_or c.args.order.now c.args.k 0)) 0) (axis cell ((get_or c.args.order.now c.args.k 0)) 1) (axis cell ((get_or c.args.order.now c.args.k 0)) 2) a.x (a.x + 1) a.y (a.y + 1) a.z0 (a.z1 + 1)) && (lt (dist c.args.q ((point (get_or c.args.sorted.now c.args.k [])))) c.args.g.radius))) ((get_or c.args.order.now c.args.k 0)) (left_over a.g a.q a.k a.sorted.now) a.mark a.stamp.now a.weight.now a.stamp.now a.weight.now a.count = λ e. let a = c.args in looked-past (((let a = c.args in let cell = a.cell.now in box_cell (axis cell ((get_or c.args.order.now c.args.k 0)) 0) (axis cell ((get_or c.args.order.now c.args.k 0)) 1) (axis cell ((get_or c.args.order.now c.args.k 0)) 2) a.x (a.x + 1) a.y (a.y + 1) a.z0 (a.z1 + 1)) && (lt (dist c.args.q ((point (get_or c.args.sorted.now c.args.k [])))) c.args.g.radius))) ((get_or c.args.order.now c.args.k 0)) (left_over a.g a.q a.k a.sorted.now) a.mark a.stamp.now a.weight.now a.count e c.requires.lists.counted in h) (and-left-false ((let a = c.args in let cell = a.cell.now in box_cell (axis cell ((get_or c.args.order.now c.args.k 0)) 0) (axis cell ((get_or c.args.order.now c.args.k 0)) 1) (axis cell ((get_or c.args.order.now c.args.k 0)) 2) a.x (a.x + 1) a.y (a.y + 1) a.z0 (a.z1 + 1))) ((lt (dist c.args.q ((point (get_or c.args.sorted.now c.args.k [])))) c.args.g.radius)) (sym c.in_column.ensures ∙ c.if-in_column.false))

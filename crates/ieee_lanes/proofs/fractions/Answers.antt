@@ -11,10 +11,8 @@ narrowed-n-requires c =     let s = c.all_small.ensures c.if-all_small.true in
 
 pub turns-requires : goal.turns-requires
 turns-requires c =     let a = c.args in
-    let n = c.narrowed-n in
     let w = c.agree.ensures c.if-agree.true in
-    let e = c.ends-at in
-    (e.ensures.1, met a.a n.result.low.a n.result.high.a e.result.stop n.ensures.0 w.0, met a.b n.result.low.b n.result.high.b e.result.stop n.ensures.1 w.1, met a.c n.result.low.c n.result.high.c e.result.stop n.ensures.2 w.2, met a.d n.result.low.d n.result.high.d e.result.stop n.ensures.3 w.3, met a.e n.result.low.e n.result.high.e e.result.stop n.ensures.4 w.4, met a.f n.result.low.f n.result.high.f e.result.stop n.ensures.5 w.5, met a.g n.result.low.g n.result.high.g e.result.stop n.ensures.6 w.6, met a.h n.result.low.h n.result.high.h e.result.stop n.ensures.7 w.7)
+    (c.ends-at.ensures.1, met a.a c.narrowed-n.result.low.a c.narrowed-n.result.high.a c.ends-at.result.stop c.narrowed-n.ensures.0 w.0, met a.b c.narrowed-n.result.low.b c.narrowed-n.result.high.b c.ends-at.result.stop c.narrowed-n.ensures.1 w.1, met a.c c.narrowed-n.result.low.c c.narrowed-n.result.high.c c.ends-at.result.stop c.narrowed-n.ensures.2 w.2, met a.d c.narrowed-n.result.low.d c.narrowed-n.result.high.d c.ends-at.result.stop c.narrowed-n.ensures.3 w.3, met a.e c.narrowed-n.result.low.e c.narrowed-n.result.high.e c.ends-at.result.stop c.narrowed-n.ensures.4 w.4, met a.f c.narrowed-n.result.low.f c.narrowed-n.result.high.f c.ends-at.result.stop c.narrowed-n.ensures.5 w.5, met a.g c.narrowed-n.result.low.g c.narrowed-n.result.high.g c.ends-at.result.stop c.narrowed-n.ensures.6 w.6, met a.h c.narrowed-n.result.low.h c.narrowed-n.result.high.h c.ends-at.result.stop c.narrowed-n.ensures.7 w.7)
 
 pub turns-requires-2 : goal.turns-requires-2
 unfolding of_bits of_int

@@ -5,5 +5,4 @@ use borrow.Author.Rules.{rules}
 
 pub returns : goal.returns
 returns c =     let a = c.args in
-    let f = c.fractions-r in
-    (turn-over a.a f.result.a f.ensures.0, turn-over a.b f.result.b f.ensures.1, turn-over a.c f.result.c f.ensures.2, turn-over a.d f.result.d f.ensures.3, turn-over a.e f.result.e f.ensures.4, turn-over a.f f.result.f f.ensures.5, turn-over a.g f.result.g f.ensures.6, turn-over a.h f.result.h f.ensures.7)
+    (turn-over a.a c.fractions-r.result.a c.fractions-r.ensures.0, turn-over a.b c.fractions-r.result.b c.fractions-r.ensures.1, turn-over a.c c.fractions-r.result.c c.fractions-r.ensures.2, turn-over a.d c.fractions-r.result.d c.fractions-r.ensures.3, turn-over a.e c.fractions-r.result.e c.fractions-r.ensures.4, turn-over a.f c.fractions-r.result.f c.fractions-r.ensures.5, turn-over a.g c.fractions-r.result.g c.fractions-r.ensures.6, turn-over a.h c.fractions-r.result.h c.fractions-r.ensures.7)

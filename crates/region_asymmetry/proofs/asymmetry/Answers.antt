@@ -200,15 +200,14 @@ returns c = let a = c.args in
     let l = (lent a.faces.now a.kx.now a.ky.now a.kz.now a.order.now a.scratch.now a.boxes.now a.seen.now) in
     let none = sym c.refusal-r.ensures ∙ at-most-zero _ c.if-r-gt0.false in
     let fit = long a.nodes.now a.tris.now a.mirror l none in
-    let r = c.apart in
     record {
-      answer = ap Apart r.ensures ∙ answer-apart _ _ none;
-      faces = worked-front _ _ a.faces.now r.new.1.1.1.0 none fit.faces r.auto.1.1.1.0;
-      kx = worked-front _ _ a.kx.now r.new.1.1.1.1.0 none fit.kx r.auto.1.1.1.1.0;
-      ky = worked-front _ _ a.ky.now r.new.1.1.1.1.1.0 none fit.ky r.auto.1.1.1.1.1.0;
-      kz = worked-front _ _ a.kz.now r.new.1.1.1.1.1.1.0 none fit.kz r.auto.1.1.1.1.1.1.0;
-      order = worked-front _ _ a.order.now r.new.1.1.1.1.1.1.1.0 none fit.order r.auto.1.1.1.1.1.1.1.0;
-      scratch = worked-front _ _ a.scratch.now r.new.1.1.1.1.1.1.1.1.0 none fit.scratch r.auto.1.1.1.1.1.1.1.1.0;
-      boxes = worked-front _ _ a.boxes.now r.new.1.1.1.1.1.1.1.1.1.0 none fit.boxes r.auto.1.1.1.1.1.1.1.1.1.0;
-      seen = worked-front _ _ a.seen.now r.new.1.1.1.1.1.1.1.1.1.1.0 none fit.seen r.auto.1.1.1.1.1.1.1.1.1.1.0;
+      answer = ap Apart c.apart.ensures ∙ answer-apart _ _ none;
+      faces = worked-front _ _ a.faces.now c.apart.new.faces none fit.faces c.apart.auto.faces;
+      kx = worked-front _ _ a.kx.now c.apart.new.kx none fit.kx c.apart.auto.kx;
+      ky = worked-front _ _ a.ky.now c.apart.new.ky none fit.ky c.apart.auto.ky;
+      kz = worked-front _ _ a.kz.now c.apart.new.kz none fit.kz c.apart.auto.kz;
+      order = worked-front _ _ a.order.now c.apart.new.order none fit.order c.apart.auto.order;
+      scratch = worked-front _ _ a.scratch.now c.apart.new.scratch none fit.scratch c.apart.auto.scratch;
+      boxes = worked-front _ _ a.boxes.now c.apart.new.boxes none fit.boxes c.apart.auto.boxes;
+      seen = worked-front _ _ a.seen.now c.apart.new.seen none fit.seen c.apart.auto.seen;
     }

@@ -29,8 +29,7 @@ loop-k-smaller c = omega arith
 pub loop-k-preserved : goal.loop-k-preserved
 loop-k-preserved c = let a = c.args in
     let l = c.loop-k in
-    let t = c.flag in
-    (omega arith, t.auto.1.0 ∙ l.invariant.1, flagged-more _ _ _ _ _ l.invariant.2 t.ensures)
+    (omega arith, c.flag.auto.keep ∙ l.invariant.1, flagged-more _ _ _ _ _ l.invariant.2 c.flag.ensures)
 
 pub shape_of-keep : goal.shape_of-keep
 shape_of-keep c = c.loop-k.invariant.1

@@ -41,9 +41,8 @@ loop-t-smaller-then-in_set c = omega arith
 pub loop-t-preserved-then-in_set : goal.loop-t-preserved-then-in_set
 unfolding in_set
 loop-t-preserved-then-in_set c = let l = c.loop-t in
-    let t = c.flag_triangle in
     let a = c.args in
-    (omega arith, t.auto.1.0 ∙ l.invariant.1, t.ensures ∙ ap (flagged (get_or a.tris.now l.t []) 6) l.invariant.2 ∙ sym (choose-true _ _ _ (sym c.in_set.ensures ∙ c.if-in_set.true)) ∙ fold_to-more _ _ _)
+    (omega arith, c.flag_triangle.auto.keep ∙ l.invariant.1, c.flag_triangle.ensures ∙ ap (flagged (get_or a.tris.now l.t []) 6) l.invariant.2 ∙ sym (choose-true _ _ _ (sym c.in_set.ensures ∙ c.if-in_set.true)) ∙ fold_to-more _ _ _)
 
 pub loop-t-smaller : goal.loop-t-smaller
 loop-t-smaller c = omega arith

@@ -23,9 +23,8 @@ loop-s-smaller c = omega (arith, c.loop-s-test.true)
 
 pub loop-s-preserved : goal.loop-s-preserved
 loop-s-preserved c = let l = c.loop-s in
-    let t = c.flag_set in
     let a = c.args in
-    (omega (arith, c.loop-s-test.true), t.auto.1.1.1.1.1.0 ∙ l.invariant.1, t.ensures ∙ ap (flagged_set a.tris.now a.surfaces.now a.starts.now a.kept.now l.s) l.invariant.2 ∙ fold_to-more _ _ _)
+    (omega (arith, c.loop-s-test.true), c.flag_set.auto.keep ∙ l.invariant.1, c.flag_set.ensures ∙ ap (flagged_set a.tris.now a.surfaces.now a.starts.now a.kept.now l.s) l.invariant.2 ∙ fold_to-more _ _ _)
 
 pub shape_of-keep : goal.shape_of-keep
 shape_of-keep c = c.loop-s.invariant.1

@@ -39,5 +39,4 @@ pub shape_of-first : goal.shape_of-first
 shape_of-first c = c.mark_front.auto.first
 
 pub returns : goal.returns
-returns c = let t = c.mark_front in
-    accepted ((let a = c.args in record { nodes = a.nodes.now; tets = a.tets.now; tris = a.tris.now; surfaces = a.surfaces.now; held = a.held.now; loaded = a.loaded.now; starts = a.starts.now; kept = a.kept.now; depths = a.depths.now })) ((let a = c.args in record { marks = a.marks.now; keep = a.keep.now; centroids = a.centroids.now; cells = a.cells.now; order = a.order.now; place = a.place.now; first = a.first.now })) (record { marks = t.new.1.1.1.1.1.1.1.1.1.0; keep = t.new.1.1.1.1.1.1.1.1.1.1.0; centroids = t.new.1.1.1.1.1.1.1.1.1.1.1.0; cells = t.new.1.1.1.1.1.1.1.1.1.1.1.1.0; order = t.new.1.1.1.1.1.1.1.1.1.1.1.1.1.0; place = t.new.1.1.1.1.1.1.1.1.1.1.1.1.1.1.0; first = t.new.1.1.1.1.1.1.1.1.1.1.1.1.1.1.1.0 }) (sym ((let h : refusal_of ((let a = c.args in record { nodes = a.nodes.now; tets = a.tets.now; tris = a.tris.now; surfaces = a.surfaces.now; held = a.held.now; loaded = a.loaded.now; starts = a.starts.now; kept = a.kept.now; depths = a.depths.now })) ((let a = c.args in record { marks = a.marks.now; keep = a.keep.now; centroids = a.centroids.now; cells = a.cells.now; order = a.order.now; place = a.place.now; first = a.first.now })) ≡ 0 = sym ((let h : c.refusal-r.result ≡ refusal_of ((let a = c.args in record { nodes = a.nodes.now; tets = a.tets.now; tris = a.tris.now; surfaces = a.surfaces.now; held = a.held.now; loaded = a.loaded.now; starts = a.starts.now; kept = a.kept.now; depths = a.depths.now })) ((let a = c.args in record { marks = a.marks.now; keep = a.keep.now; centroids = a.centroids.now; cells = a.cells.now; order = a.order.now; place = a.place.now; first = a.first.now })) = refusal_is ((let a = c.args in record { nodes = a.nodes.now; tets = a.tets.now; tris = a.tris.now; surfaces = a.surfaces.now; held = a.held.now; loaded = a.loaded.now; starts = a.starts.now; kept = a.kept.now; depths = a.depths.now })) ((let a = c.args in record { marks = a.marks.now; keep = a.keep.now; centroids = a.centroids.now; cells = a.cells.now; order = a.order.now; place = a.place.now; first = a.first.now })) c.too_short-short.result c.refusal-r.result c.too_short-short.ensures c.refusal-r.ensures in h)) ∙ at-most-zero c.refusal-r.result c.if-r-gt0.false in h))) t.ensures.0 t.ensures.1 t.auto.1.1.1.1.1.1.1.1.1.1.0 t.auto.1.1.1.1.1.1.1.1.1.1.1.0 t.auto.1.1.1.1.1.1.1.1.1.1.1.1.0 t.auto.1.1.1.1.1.1.1.1.1.1.1.1.1.0 t.auto.1.1.1.1.1.1.1.1.1.1.1.1.1.1.0 t.auto.1.1.1.1.1.1.1.1.1.1.1.1.1.1.1.0
+returns c = accepted ((let a = c.args in record { nodes = a.nodes.now; tets = a.tets.now; tris = a.tris.now; surfaces = a.surfaces.now; held = a.held.now; loaded = a.loaded.now; starts = a.starts.now; kept = a.kept.now; depths = a.depths.now })) ((let a = c.args in record { marks = a.marks.now; keep = a.keep.now; centroids = a.centroids.now; cells = a.cells.now; order = a.order.now; place = a.place.now; first = a.first.now })) (record { marks = c.mark_front.new.marks; keep = c.mark_front.new.keep; centroids = c.mark_front.new.centroids; cells = c.mark_front.new.cells; order = c.mark_front.new.order; place = c.mark_front.new.place; first = c.mark_front.new.first }) (sym ((let h : refusal_of ((let a = c.args in record { nodes = a.nodes.now; tets = a.tets.now; tris = a.tris.now; surfaces = a.surfaces.now; held = a.held.now; loaded = a.loaded.now; starts = a.starts.now; kept = a.kept.now; depths = a.depths.now })) ((let a = c.args in record { marks = a.marks.now; keep = a.keep.now; centroids = a.centroids.now; cells = a.cells.now; order = a.order.now; place = a.place.now; first = a.first.now })) ≡ 0 = sym ((let h : c.refusal-r.result ≡ refusal_of ((let a = c.args in record { nodes = a.nodes.now; tets = a.tets.now; tris = a.tris.now; surfaces = a.surfaces.now; held = a.held.now; loaded = a.loaded.now; starts = a.starts.now; kept = a.kept.now; depths = a.depths.now })) ((let a = c.args in record { marks = a.marks.now; keep = a.keep.now; centroids = a.centroids.now; cells = a.cells.now; order = a.order.now; place = a.place.now; first = a.first.now })) = refusal_is ((let a = c.args in record { nodes = a.nodes.now; tets = a.tets.now; tris = a.tris.now; surfaces = a.surfaces.now; held = a.held.now; loaded = a.loaded.now; starts = a.starts.now; kept = a.kept.now; depths = a.depths.now })) ((let a = c.args in record { marks = a.marks.now; keep = a.keep.now; centroids = a.centroids.now; cells = a.cells.now; order = a.order.now; place = a.place.now; first = a.first.now })) c.too_short-short.result c.refusal-r.result c.too_short-short.ensures c.refusal-r.ensures in h)) ∙ at-most-zero c.refusal-r.result c.if-r-gt0.false in h))) c.mark_front.ensures.marks_after c.mark_front.ensures.past c.mark_front.auto.keep c.mark_front.auto.centroids c.mark_front.auto.cells c.mark_front.auto.order c.mark_front.auto.place c.mark_front.auto.first

@@ -44,5 +44,5 @@ returns-else-short c =     let a = c.args in
     let job = c.in-Read.job in
     let told = sym c.check-answer.ensures ∙ c.in-Read.is in
     let l = lent a.volumes.now a.centroids.now a.weights.now a.passive.now a.mirrors.now in
-    ap (reading (Read job)) (all-filled a.bytes.now job.elements job.mirrors l c.elements.ensures.0 c.elements.ensures.1.0 c.elements.ensures.1.1.0 c.elements.ensures.1.1.1 c.mirrors.ensures)
+    ap (reading (Read job)) (all-filled a.bytes.now job.elements job.mirrors l c.elements.ensures.volumes_after c.elements.ensures.centroids_after c.elements.ensures.weights_after c.elements.ensures.passive_after c.mirrors.ensures)
     ∙ all_read a.bytes.now l job told c.if-short.false

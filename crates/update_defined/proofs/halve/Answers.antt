@@ -35,10 +35,9 @@ design_again-same-requires c =     let p = c.requires.gain_len in
 pub kept_again-kept-requires : goal.kept_again-kept-requires
 unfolding reckoned
 kept_again-kept-requires c =     let l = c.loop-passes in
-    let again = c.design_again-same in
     let w = l.invariant.2 ∙ c.requires.gain_len.4 in
-    let d = again.auto.1.1.1.1.1.0 ∙ l.invariant.1 ∙ c.requires.gain_len.3 in
-    (w ∙ sym c.requires.gain_len.2, (λ e. wf-at _ _ _ _ _ _ _ (sym w) (sym d) (c.requires.wf e), λ e. l.invariant.4 ∙ ap (kept_of _ _ _ _ _ _ _) (sym (again.ensures.1 e))))
+    let d = c.design_again-same.auto.out ∙ l.invariant.1 ∙ c.requires.gain_len.3 in
+    (w ∙ sym c.requires.gain_len.2, (λ e. wf-at _ _ _ _ _ _ _ (sym w) (sym d) (c.requires.wf e), λ e. l.invariant.4 ∙ ap (kept_of _ _ _ _ _ _ _) (sym (c.design_again-same.ensures.1 e))))
 
 pub overflow_add-passes : goal.overflow_add-passes
 overflow_add-passes c = omega (arith, c.loop-passes.invariant.0)

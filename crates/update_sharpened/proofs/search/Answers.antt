@@ -50,16 +50,16 @@ unfolding off_at more_at
 loop-off-preserved c =     let l = c.loop-off in
     let a = c.args in
     let t = c.loop-off-test.true in
-    let v = c.volume_at-at in (
+    (
       (pass-left l.off l.passes t).0,
-      v.auto.1.1.1.1.1.1.1.1.1.1.1.1.1.1.1.1.1.0 ∙ l.invariant.1,
-      v.auto.1.1.1.1.1.1.1.1.1.1.1.1.1.1.1.1.1.1.0 ∙ l.invariant.2,
-      ap (lt a.tolerance) (c.abs-in-loop-off.ensures ∙ ap (λ (u : Float). abs_of (sub binary64 u a.target)) v.ensures.0),
-      v.ensures.0,
-      v.ensures.1,
-      v.ensures.2,
-      v.ensures.3,
-      search-more ((let a = c.args in given a.x.now a.gain.now a.dv.now a.passive.now a.m a.target a.tolerance (Sharpened a.beta) a.starts.now a.near.now a.coef.now a.volumes.now)) l.low l.high l.rate l.passes _ _ _ (sym (ap (λ (u : Bool). u && ltb l.passes 200) l.invariant.3) ∙ t) c.if-mid-low.false (ap (lt a.target) v.ensures.0) c.either-low.ensures c.either-high.ensures ∙ l.invariant.8,
+      c.volume_at-at.auto.design ∙ l.invariant.1,
+      c.volume_at-at.auto.work ∙ l.invariant.2,
+      ap (lt a.tolerance) (c.abs-in-loop-off.ensures ∙ ap (λ (u : Float). abs_of (sub binary64 u a.target)) c.volume_at-at.ensures.0),
+      c.volume_at-at.ensures.0,
+      c.volume_at-at.ensures.1,
+      c.volume_at-at.ensures.2,
+      c.volume_at-at.ensures.3,
+      search-more ((let a = c.args in given a.x.now a.gain.now a.dv.now a.passive.now a.m a.target a.tolerance (Sharpened a.beta) a.starts.now a.near.now a.coef.now a.volumes.now)) l.low l.high l.rate l.passes _ _ _ (sym (ap (λ (u : Bool). u && ltb l.passes 200) l.invariant.3) ∙ t) c.if-mid-low.false (ap (lt a.target) c.volume_at-at.ensures.0) c.either-low.ensures c.either-high.ensures ∙ l.invariant.8,
     )
 
 pub shape_of-design : goal.shape_of-design

@@ -26,9 +26,7 @@ unfolding trial reckoned kept_of
 search-t-requires c =     let a = c.args in
     let p = c.requires.gain_len in
     let g : Given = given a.x.now a.gain.now a.dv.now a.passive.now a.m a.target a.tolerance (Sharpened a.beta) a.starts.now a.near.now a.coef.now a.volumes.now in
-    let d = c.design_at in
-    let w = c.design_at-then-well in
-    ((p.0, p.1, d.auto.1.1.1.1.1.0 ∙ p.2, w.auto.1.1.1.1.1.0 ∙ p.3), (well_wf _ _ _ _ _ (sym c.well.ensures ∙ c.if-well.true), (c.kept-v.ensures.0 ∙ ap (reckoned g) d.ensures, c.kept-v.ensures.0, c.kept-v.ensures.1, w.ensures)))
+    ((p.0, p.1, c.design_at.auto.out ∙ p.2, c.design_at-then-well.auto.out ∙ p.3), (well_wf _ _ _ _ _ (sym c.well.ensures ∙ c.if-well.true), (c.kept-v.ensures.0 ∙ ap (reckoned g) c.design_at.ensures, c.kept-v.ensures.0, c.kept-v.ensures.1, c.design_at-then-well.ensures)))
 
 pub design_at-requires-then-well-2 : goal.design_at-requires-then-well-2
 design_at-requires-then-well-2 c =     let p = c.requires.gain_len in

@@ -25,11 +25,9 @@ unfolding trial
 returns-then-p-q c =     let a = c.args in
     let g : Given = given a.x.now a.gain.now a.dv.now a.passive.now a.m a.target a.tolerance (Sharpened a.beta) a.starts.now a.near.now a.coef.now a.volumes.now in
     let q = c.requires.one_value in
-    let d = c.design_again-p in
-    let w = c.design_again-q in
-    let t = both d.result w.result c.if-p-q.true in
-    let one = q.0 ∙ ap (reckoned g) (sym (d.ensures.1 t.0)) in
-    (one ∙ ap (reckoned g) d.ensures.0, one, q.1 ∙ ap (reckoned g) (sym (w.ensures.1 t.1)), w.ensures.0)
+    let t = both c.design_again-p.result c.design_again-q.result c.if-p-q.true in
+    let one = q.0 ∙ ap (reckoned g) (sym (c.design_again-p.ensures.1 t.0)) in
+    (one ∙ ap (reckoned g) c.design_again-p.ensures.0, one, q.1 ∙ ap (reckoned g) (sym (c.design_again-q.ensures.1 t.1)), c.design_again-q.ensures.0)
 
 pub kept-v-requires : goal.kept-v-requires
 kept-v-requires c =     let d = c.design_again-p.auto.out ∙ c.requires.gain_len.2 in

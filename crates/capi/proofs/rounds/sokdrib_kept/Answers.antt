@@ -24,5 +24,4 @@ kept-volume-requires c = (length-take-le _ _ (one-fits _ _ _ _ c.refusal-refused
 pub returns : goal.returns
 returns c =     let a = c.args in
     let z = c.if-refused-ne0.false in
-    let called = c.kept-volume in
-    record { refused_value = sym z ∙ c.refusal-refused.ensures; volume_value = rw c.rule_of-rule.ensures at called.ensures ∙ unless-accepted 0 _ _ refl; worked_by = worked-front 0 (length a.passive.now) a.density.now called.new.1.1.1.1.1.1.1.1.1.0 refl (one-fits _ _ _ _ c.refusal-refused.ensures c.if-refused-ne0.false) called.auto.1.1.1.1.1.1.1.1.1.0 }
+    record { refused_value = sym z ∙ c.refusal-refused.ensures; volume_value = rw c.rule_of-rule.ensures at c.kept-volume.ensures ∙ unless-accepted 0 _ _ refl; worked_by = worked-front 0 (length a.passive.now) a.density.now c.kept-volume.new.density refl (one-fits _ _ _ _ c.refusal-refused.ensures c.if-refused-ne0.false) c.kept-volume.auto.density }

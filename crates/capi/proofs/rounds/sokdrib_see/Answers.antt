@@ -27,5 +27,4 @@ see-requires c = (length-take-le _ _ (two-fit _ _ _ _ _ c.refusal-refused.ensure
 pub returns : goal.returns
 returns c =     let a = c.args in
     let z = c.if-refused-ne0.false in
-    let called = c.see in
-    record { value = sym z ∙ c.refusal-refused.ensures; density_after = written 0 (length a.passive.now) _ called.new.1.1.1.1.1.1.0 a.density.now refl (two-fit _ _ _ _ _ c.refusal-refused.ensures c.if-refused-ne0.false).0 called.auto.1.1.1.1.1.1.0 (rw c.sharpness-s.ensures at called.ensures.0); slope_after = written 0 (length a.passive.now) _ called.new.1.1.1.1.1.1.1.0 a.slope.now refl (two-fit _ _ _ _ _ c.refusal-refused.ensures c.if-refused-ne0.false).1 called.auto.1.1.1.1.1.1.1.0 (rw c.sharpness-s.ensures at called.ensures.1) }
+    record { value = sym z ∙ c.refusal-refused.ensures; density_after = written 0 (length a.passive.now) _ c.see.new.density a.density.now refl (two-fit _ _ _ _ _ c.refusal-refused.ensures c.if-refused-ne0.false).0 c.see.auto.density (rw c.sharpness-s.ensures at c.see.ensures.0); slope_after = written 0 (length a.passive.now) _ c.see.new.slope a.slope.now refl (two-fit _ _ _ _ _ c.refusal-refused.ensures c.if-refused-ne0.false).1 c.see.auto.slope (rw c.sharpness-s.ensures at c.see.ensures.1) }

@@ -32,6 +32,4 @@ free_volumes-requires c =     let n = sym (length-take-le _ _ (two-fit _ _ _ _ _
 pub returns : goal.returns
 returns c =     let a = c.args in
     let z = c.if-refused-ne0.false in
-    let first = c.start_design in
-    let free = c.free_volumes in
-    record { refused_value = sym z ∙ c.refusal-refused.ensures; total_value = (c.sum-total.ensures ∙ unless-accepted 0 _ _ refl, c.solid_volume-solid.ensures ∙ unless-accepted 0 _ _ refl); target_value = (c.target-target.ensures ∙ unless-accepted 0 _ _ refl, c.tolerance-tolerance.ensures ∙ unless-accepted 0 _ _ refl, c.start_density-density.ensures ∙ unless-accepted 0 _ _ refl); design_after = (written 0 (length a.volumes.now) _ first.new.1.1.0 a.design.now refl (two-fit _ _ _ _ _ c.refusal-refused.ensures c.if-refused-ne0.false).0 first.auto.1.1.0 first.ensures, written 0 (length a.volumes.now) _ free.new.1.1.0 a.free.now refl (two-fit _ _ _ _ _ c.refusal-refused.ensures c.if-refused-ne0.false).1 free.auto.1.1.0 free.ensures) }
+    record { refused_value = sym z ∙ c.refusal-refused.ensures; total_value = (c.sum-total.ensures ∙ unless-accepted 0 _ _ refl, c.solid_volume-solid.ensures ∙ unless-accepted 0 _ _ refl); target_value = (c.target-target.ensures ∙ unless-accepted 0 _ _ refl, c.tolerance-tolerance.ensures ∙ unless-accepted 0 _ _ refl, c.start_density-density.ensures ∙ unless-accepted 0 _ _ refl); design_after = (written 0 (length a.volumes.now) _ c.start_design.new.design a.design.now refl (two-fit _ _ _ _ _ c.refusal-refused.ensures c.if-refused-ne0.false).0 c.start_design.auto.design c.start_design.ensures, written 0 (length a.volumes.now) _ c.free_volumes.new.free a.free.now refl (two-fit _ _ _ _ _ c.refusal-refused.ensures c.if-refused-ne0.false).1 c.free_volumes.auto.free c.free_volumes.ensures) }

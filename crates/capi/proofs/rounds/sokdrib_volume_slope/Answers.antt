@@ -28,5 +28,4 @@ volume_slope-requires c =     (same_count _ _ (accepted _ _ _ c.refusal-refused.
 pub returns : goal.returns
 returns c =     let a = c.args in
     let z = c.if-refused-ne0.false in
-    let called = c.volume_slope in
-    record { value = sym z ∙ c.refusal-refused.ensures; out_after = written 0 (length a.slope.now) _ called.new.1.1.1.1.1.1.0 a.out.now refl (two-fit _ _ _ _ _ c.refusal-refused.ensures c.if-refused-ne0.false).1 called.auto.1.1.1.1.1.1.0 called.ensures; worked_by = worked-front 0 (length a.slope.now) a.by-density.now called.new.1.1.1.1.1.0 refl (two-fit _ _ _ _ _ c.refusal-refused.ensures c.if-refused-ne0.false).0 called.auto.1.1.1.1.1.0 }
+    record { value = sym z ∙ c.refusal-refused.ensures; out_after = written 0 (length a.slope.now) _ c.volume_slope.new.out a.out.now refl (two-fit _ _ _ _ _ c.refusal-refused.ensures c.if-refused-ne0.false).1 c.volume_slope.auto.out c.volume_slope.ensures; worked_by = worked-front 0 (length a.slope.now) a.by-density.now c.volume_slope.new.by_density refl (two-fit _ _ _ _ _ c.refusal-refused.ensures c.if-refused-ne0.false).0 c.volume_slope.auto.by_density }

@@ -42,10 +42,9 @@ update-u-requires c =     let all = neither _ _ (accepted _ _ _ c.refusal-refuse
 pub returns : goal.returns
 returns c =     let a = c.args in
     let z = c.if-refused-ne0.false in
-    let called = c.update-u in
     let zero-told = told-zero _ _ c.told.ensures in
     let is =
     told_is
     (λ rule. record { x = a.x.now; gain = gains_of a.dc.now a.dv.now; dv = a.dv.now; passive = a.passive.now; move = a.m; target = a.target; tolerance = a.tolerance; rule = rule; starts = a.starts.now; near = a.near.now; coef = a.coef.now; volumes = a.volumes.now })
-    _ _ c.rule_of-rule.ensures _ _ _ called.ensures c.told.ensures in
-    record { refused_value = zero-told ∙ sym z ∙ c.refusal-refused.ensures; value = is.0 ∙ unless-accepted _ _ _ zero-told; design_after = written _ (length a.x.now) _ called.new.1.1.1.1.1.1.1.1.1.1.1.1.0 a.design.now zero-told (three-fit _ _ _ _ _ _ c.refusal-refused.ensures c.if-refused-ne0.false).0 called.auto.1.1.1.1.1.1.1.1.1.1.1.1.0 is.1; worked_by = (worked-front _ (length a.x.now) a.gain.now called.new.1.1.1.1.1.1.1.1.1.1.1.1.1.0 zero-told (three-fit _ _ _ _ _ _ c.refusal-refused.ensures c.if-refused-ne0.false).1 called.auto.1.1.1.1.1.1.1.1.1.1.1.1.1.0, worked-front _ (length a.x.now) a.work.now called.new.1.1.1.1.1.1.1.1.1.1.1.1.1.1.0 zero-told (three-fit _ _ _ _ _ _ c.refusal-refused.ensures c.if-refused-ne0.false).2 called.auto.1.1.1.1.1.1.1.1.1.1.1.1.1.1.0) }
+    _ _ c.rule_of-rule.ensures _ _ _ c.update-u.ensures c.told.ensures in
+    record { refused_value = zero-told ∙ sym z ∙ c.refusal-refused.ensures; value = is.0 ∙ unless-accepted _ _ _ zero-told; design_after = written _ (length a.x.now) _ c.update-u.new.design a.design.now zero-told (three-fit _ _ _ _ _ _ c.refusal-refused.ensures c.if-refused-ne0.false).0 c.update-u.auto.design is.1; worked_by = (worked-front _ (length a.x.now) a.gain.now c.update-u.new.gain zero-told (three-fit _ _ _ _ _ _ c.refusal-refused.ensures c.if-refused-ne0.false).1 c.update-u.auto.gain, worked-front _ (length a.x.now) a.work.now c.update-u.new.work zero-told (three-fit _ _ _ _ _ _ c.refusal-refused.ensures c.if-refused-ne0.false).2 c.update-u.auto.work) }

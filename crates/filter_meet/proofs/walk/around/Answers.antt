@@ -25,22 +25,21 @@ about x a b fit e f = (omega arith, omega arith)
 pub returns-then-is_outside : goal.returns-then-is_outside
 returns-then-is_outside c = let a = c.args in
     took-none (gained a.centroids.now a.g.radius a.q) a.mark a.stamp.now a.weight.now (counts a.centroids.now a.g.radius a.q) a.from
-    (counts-none a.centroids.now a.g.radius a.q (is-outside c.before.before.before.before.before.before.before.before.before c.is_outside.result c.is_outside.ensures ∙ c.if-is_outside.true)) c.requires.1.counted
+    (counts-none a.centroids.now a.g.radius a.q (is-outside c.before.before.before.before.before.before.before.before.before c.is_outside.result c.is_outside.ensures ∙ c.if-is_outside.true)) c.requires.lists.counted
 
 pub block-requires : goal.block-requires
 block-requires c = let u = about c.cell_of-x.result c.below.result c.above.result (rw c.cell_of-x.ensures (cell-fits _ _ _)) c.below.ensures c.above.ensures in
     let v = about c.cell_of-y.result c.below-2.result c.above-2.result (rw c.cell_of-y.ensures (cell-fits _ _ _)) c.below-2.ensures c.above-2.ensures in
-    record { ready = (c.requires.0, v.0, v.1, u.0, u.1); lists = c.requires.1 }
+    record { ready = (c.requires.ready, v.0, v.1, u.0, u.1); lists = c.requires.lists }
 
 pub returns : goal.returns
 returns c = let a = c.args in
-    let r = c.requires.0 in
+    let r = c.requires.ready in
     let lo = r.lo in
     let q = a.q in
     let radius = a.g.radius in
-    let t = c.block in
-    block-counts a.centroids.now a.g q a.cell.now a.order.now a.first.now a.sorted.now r a.mark a.stamp.now a.weight.now t.new.1.1.1.1.1.1.1.1.1.1.1.1.1.1.1.0 t.new.1.1.1.1.1.1.1.1.1.1.1.1.1.1.1.1.0 t.result (gained a.centroids.now radius q)
+    block-counts a.centroids.now a.g q a.cell.now a.order.now a.first.now a.sorted.now r a.mark a.stamp.now a.weight.now c.block.new.stamp c.block.new.weight c.block.result (gained a.centroids.now radius q)
     c.cell_of-x.result c.cell_of-y.result c.cell_of-z.result c.below.result c.above.result c.below-2.result c.above-2.result c.below-3.result c.above-3.result
-    c.requires.1.stamps c.requires.1.weights (is-outside c.before.before.before.before.before.before.before.before.before.before.before.before.before.before.before.before.before.before.before.before.before.before.before.before.before.before.before.before c.is_outside.result c.is_outside.ensures ∙ c.if-is_outside.false)
+    c.requires.lists.stamps c.requires.lists.weights (is-outside c.before.before.before.before.before.before.before.before.before.before.before.before.before.before.before.before.before.before.before.before.before.before.before.before.before.before.before.before c.is_outside.result c.is_outside.ensures ∙ c.if-is_outside.false)
     (c.cell_of-x.ensures ∙ ap (λ (v : Vec3). cell_at q.x v.x radius) lo) (c.cell_of-y.ensures ∙ ap (λ (v : Vec3). cell_at q.y v.y radius) lo) (c.cell_of-z.ensures ∙ ap (λ (v : Vec3). cell_at q.z v.z radius) lo)
-    c.below.ensures c.above.ensures c.below-2.ensures c.above-2.ensures c.below-3.ensures c.above-3.ensures t.ensures
+    c.below.ensures c.above.ensures c.below-2.ensures c.above-2.ensures c.below-3.ensures c.above-3.ensures c.block.ensures

@@ -36,5 +36,4 @@ fill_table-requires c = let a = c.args in
 
 pub returns : goal.returns
 returns c = let a = c.args in
-    let t = c.fill_table in
-    (t.ensures, record { cells = drop_at t.new.1.1.1.1.1.1.1.0 (drop (length a.centroids.now) a.cell.now) (length a.centroids.now) (t.auto.1.1.1.1.1.1.1.0 ∙ length-take-le (length a.centroids.now) a.cell.now c.requires.cells); orders = drop_at t.new.1.1.1.1.1.1.1.1.0 (drop (length a.centroids.now) a.order.now) (length a.centroids.now) (t.auto.1.1.1.1.1.1.1.1.0 ∙ length-take-le (length a.centroids.now) a.order.now c.requires.orders); firsts = drop_at t.new.1.1.1.1.1.1.1.1.1.0 (drop (length a.centroids.now + 1) a.first.now) (length a.centroids.now + 1) (t.auto.1.1.1.1.1.1.1.1.1.0 ∙ length-take-le (length a.centroids.now + 1) a.first.now c.requires.firsts); sorteds = drop_at t.new.1.1.1.1.1.1.1.1.1.1.0 (drop (length a.centroids.now) a.sorted.now) (length a.centroids.now) (t.auto.1.1.1.1.1.1.1.1.1.1.0 ∙ length-take-le (length a.centroids.now) a.sorted.now c.requires.sorteds); stamps = drop_at t.new.1.1.1.1.1.1.1.1.1.1.1.0 (drop (length a.centroids.now) a.stamp.now) (length a.centroids.now) (t.auto.1.1.1.1.1.1.1.1.1.1.1.0 ∙ length-take-le (length a.centroids.now) a.stamp.now c.requires.stamps); weights = drop_at t.new.1.1.1.1.1.1.1.1.1.1.1.1.0 (drop (length a.centroids.now) a.weight.now) (length a.centroids.now) (t.auto.1.1.1.1.1.1.1.1.1.1.1.1.0 ∙ length-take-le (length a.centroids.now) a.weight.now c.requires.weights); founds = drop_at t.new.1.1.1.1.1.1.1.1.1.1.1.1.1.0 (drop (length a.centroids.now) a.found.now) (length a.centroids.now) (t.auto.1.1.1.1.1.1.1.1.1.1.1.1.1.0 ∙ length-take-le (length a.centroids.now) a.found.now c.requires.founds); maps = drop_at t.new.1.1.1.1.1.1.1.1.1.1.1.1.1.1.0 (drop 1040 a.bits.now) 1040 (t.auto.1.1.1.1.1.1.1.1.1.1.1.1.1.1.0 ∙ length-take-le 1040 a.bits.now c.requires.maps) })
+    record { filled = c.fill_table.ensures; past = record { cells = drop_at c.fill_table.new.cell (drop (length a.centroids.now) a.cell.now) (length a.centroids.now) (c.fill_table.auto.cell ∙ length-take-le (length a.centroids.now) a.cell.now c.requires.cells); orders = drop_at c.fill_table.new.order (drop (length a.centroids.now) a.order.now) (length a.centroids.now) (c.fill_table.auto.order ∙ length-take-le (length a.centroids.now) a.order.now c.requires.orders); firsts = drop_at c.fill_table.new.first (drop (length a.centroids.now + 1) a.first.now) (length a.centroids.now + 1) (c.fill_table.auto.first ∙ length-take-le (length a.centroids.now + 1) a.first.now c.requires.firsts); sorteds = drop_at c.fill_table.new.sorted (drop (length a.centroids.now) a.sorted.now) (length a.centroids.now) (c.fill_table.auto.sorted ∙ length-take-le (length a.centroids.now) a.sorted.now c.requires.sorteds); stamps = drop_at c.fill_table.new.stamp (drop (length a.centroids.now) a.stamp.now) (length a.centroids.now) (c.fill_table.auto.stamp ∙ length-take-le (length a.centroids.now) a.stamp.now c.requires.stamps); weights = drop_at c.fill_table.new.weight (drop (length a.centroids.now) a.weight.now) (length a.centroids.now) (c.fill_table.auto.weight ∙ length-take-le (length a.centroids.now) a.weight.now c.requires.weights); founds = drop_at c.fill_table.new.found (drop (length a.centroids.now) a.found.now) (length a.centroids.now) (c.fill_table.auto.found ∙ length-take-le (length a.centroids.now) a.found.now c.requires.founds); maps = drop_at c.fill_table.new.bits (drop 1040 a.bits.now) 1040 (c.fill_table.auto.bits ∙ length-take-le 1040 a.bits.now c.requires.maps) } }

@@ -12,15 +12,15 @@ file_all-buckets-requires c = ((c.requires.some, c.requires.few), (c.requires.ce
 
 pub all_rows-requires : goal.all_rows-requires
 all_rows-requires c = let a = c.args in
-    let f = c.file_all-buckets in record { ready = (
-        ready a.centroids.now c.lower-lo.result c.upper-hi.result a.radius c.limit_of-limit.result f.new.1.1.1.0 f.new.1.1.1.1.0 f.new.1.1.1.1.1.0 f.new.1.1.1.1.1.1.0 f.result
-            c.lower-lo.ensures c.upper-hi.ensures c.limit_of-limit.ensures c.requires.few f.ensures,
+    record { ready = (
+        ready a.centroids.now c.lower-lo.result c.upper-hi.result a.radius c.limit_of-limit.result c.file_all-buckets.new.cell c.file_all-buckets.new.order c.file_all-buckets.new.first c.file_all-buckets.new.sorted c.file_all-buckets.result
+            c.lower-lo.ensures c.upper-hi.ensures c.limit_of-limit.ensures c.requires.few c.file_all-buckets.ensures,
         c.requires.three,
         c.unit_planes-held.ensures,
       ); clean = ((
         clean (length a.centroids.now) c.words.new.l c.floats.new.l c.longs.new.l a.stamp.now a.weight.now c.requires.few c.requires.stamps c.requires.weights (omega (arith, c.requires.maps, c.longs.auto.l)) c.words.ensures c.floats.ensures,
         c.requires.volumed,
-        omega (arith, c.requires.founds, f.auto.1.1.1.1.1.1.1.0),
+        omega (arith, c.requires.founds, c.file_all-buckets.auto.place),
         c.requires.begun,
       ), ) }
 

@@ -8,10 +8,10 @@ use lib.ListN.{length}
 use mathlib.Core.Path.{ap, ◌∙◌}
 
 pub cell_size-size-requires : goal.cell_size-size-requires
-cell_size-size-requires c = c.requires.1
+cell_size-size-requires c = c.requires.tris_in_bounds
 
 pub cells_of-requires : goal.cells_of-requires
-cells_of-requires c = c.requires.0.2
+cells_of-requires c = c.requires.centroids_nonzero.2
 
 pub returns : goal.returns
 returns c = let a = c.args in

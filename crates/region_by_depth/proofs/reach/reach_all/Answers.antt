@@ -30,19 +30,19 @@ pub offset_bounds-surfaces-t : goal.offset_bounds-surfaces-t
 offset_bounds-surfaces-t c = omega arith
 
 pub bounds-surfaces-t : goal.bounds-surfaces-t
-bounds-surfaces-t c = omega (arith, c.requires.1.0)
+bounds-surfaces-t c = omega (arith, c.requires.tris_in_bounds.0)
 
 pub overflow_add-t : goal.overflow_add-t
 overflow_add-t c = omega arith
 
 pub in_set-requires : goal.in_set-requires
-in_set-requires c = c.requires.1.1
+in_set-requires c = c.requires.tris_in_bounds.1
 
 pub corners-requires : goal.corners-requires
 corners-requires c = tt
 
 pub reach-requires : goal.reach-requires
-reach-requires c = (c.requires.0.0, c.loop-t.invariant.1 ∙ c.requires.0.1)
+reach-requires c = (c.requires.ready.0, c.loop-t.invariant.1 ∙ c.requires.ready.1)
 
 pub loop-t-smaller-then-in_set : goal.loop-t-smaller-then-in_set
 loop-t-smaller-then-in_set c = omega (arith, c.loop-t-test.true)
@@ -50,11 +50,10 @@ loop-t-smaller-then-in_set c = omega (arith, c.loop-t-test.true)
 pub loop-t-preserved-then-in_set : goal.loop-t-preserved-then-in_set
 unfolding in_set
 loop-t-preserved-then-in_set c = let l = c.loop-t in
-    let t = c.reach in
     let a = c.args in (
       omega (arith, c.loop-t-test.true),
-      t.auto.1.1.1.1.1.1.1.1.0 ∙ l.invariant.1,
-      t.ensures ∙ (λ i. reached a.size a.depth (c.corners.ensures i) a.centroids.now (l.invariant.2 i))
+      c.reach.auto.marks ∙ l.invariant.1,
+      c.reach.ensures ∙ (λ i. reached a.size a.depth (c.corners.ensures i) a.centroids.now (l.invariant.2 i))
           ∙ sym (choose-true (in_set a.surfaces.now a.starts.now a.kept.now a.s l.t) _ _ (sym c.in_set.ensures ∙ c.if-in_set.true)) ∙ fold_to-more (step a.nodes.now a.tris.now a.surfaces.now a.starts.now a.kept.now a.s a.size a.depth a.centroids.now) a.marks.now l.t,
     )
 

@@ -30,13 +30,12 @@ loop-x-smaller c = omega (arith, c.loop-x-test.true)
 pub loop-x-preserved : goal.loop-x-preserved
 loop-x-preserved c = let a = c.args in
     let l = c.loop-x in
-    let t = c.plane-in-loop-x in
     let k = l.x + 1 in (
       omega (arith, l.invariant.0),
       omega (arith, c.loop-x-test.true),
-      t.auto.1.1.1.1.1.1.1.1.1.1.1.1.0 ∙ l.invariant.2,
+      c.plane-in-loop-x.auto.marks ∙ l.invariant.2,
       λ w e. changed-more (λ _ _. true) true (box_near a.t a.limit a.centroids.now a.cells.now k (k + 1) a.y0 (a.y1 + 1) a.z0 (a.z1 + 1)) (box_near a.t a.limit a.centroids.now a.cells.now a.x0 k a.y0 (a.y1 + 1) a.z0 (a.z1 + 1)) (box_near a.t a.limit a.centroids.now a.cells.now a.x0 (k + 1) a.y0 (a.y1 + 1) a.z0 (a.z1 + 1))
-          w l.marks t.new.1.1.1.1.1.1.1.1.1.1.1.1.0 (near-grows-x a.t a.limit a.centroids.now a.cells.now a.x0 k a.y0 (a.y1 + 1) a.z0 (a.z1 + 1) (omega (arith, l.invariant.0))) (l.invariant.3 w e) t.ensures,
+          w l.marks c.plane-in-loop-x.new.marks (near-grows-x a.t a.limit a.centroids.now a.cells.now a.x0 k a.y0 (a.y1 + 1) a.z0 (a.z1 + 1) (omega (arith, l.invariant.0))) (l.invariant.3 w e) c.plane-in-loop-x.ensures,
     )
 
 pub shape_of-marks : goal.shape_of-marks

@@ -40,13 +40,12 @@ loop-k-smaller c = omega arith
 pub loop-k-preserved : goal.loop-k-preserved
 loop-k-preserved c = let a = c.args in
     let l = c.loop-k in
-    let o = c.look in
     let lt : l.k < length a.cells.now = omega (arith, l.invariant, c.loop-k-test.true) in (
       omega (arith, l.invariant.0),
       omega (arith, c.loop-k-test.true),
       l.invariant.2,
-      o.auto.1.1.1.1.1.1.1.1.1.1.0 ∙ l.invariant.3,
-      look-more a.t a.limit a.centroids.now a.cells.now a.order.now a.first.now a.m a.x a.y a.z0 a.z1 a.marks.now c.span-s.result.from l.k l.marks o.new.1.1.1.1.1.1.1.1.1.1.0 l.invariant.0 lt (c.requires.0.order_lt l.k lt) (l.invariant.3 ∙ c.requires.2 ∙ sym c.requires.1) l.invariant.4 o.ensures,
+      c.look.auto.marks ∙ l.invariant.3,
+      look-more a.t a.limit a.centroids.now a.cells.now a.order.now a.first.now a.m a.x a.y a.z0 a.z1 a.marks.now c.span-s.result.from l.k l.marks c.look.new.marks l.invariant.0 lt (c.requires.0.order_lt l.k lt) (l.invariant.3 ∙ c.requires.2 ∙ sym c.requires.1) l.invariant.4 c.look.ensures,
     )
 
 pub shape_of-marks : goal.shape_of-marks

@@ -30,13 +30,12 @@ loop-y-smaller c = omega (arith, c.loop-y-test.true)
 pub loop-y-preserved : goal.loop-y-preserved
 loop-y-preserved c = let a = c.args in
     let l = c.loop-y in
-    let t = c.column-in-loop-y in
     let k = l.y + 1 in (
       omega (arith, l.invariant.0),
       omega (arith, c.loop-y-test.true),
-      t.auto.1.1.1.1.1.1.1.1.1.1.1.0 ∙ l.invariant.2,
+      c.column-in-loop-y.auto.marks ∙ l.invariant.2,
       λ w e. changed-more (λ _ _. true) true (box_near a.t a.limit a.centroids.now a.cells.now a.x (a.x + 1) k (k + 1) a.z0 (a.z1 + 1)) (box_near a.t a.limit a.centroids.now a.cells.now a.x (a.x + 1) a.y0 k a.z0 (a.z1 + 1)) (box_near a.t a.limit a.centroids.now a.cells.now a.x (a.x + 1) a.y0 (k + 1) a.z0 (a.z1 + 1))
-          w l.marks t.new.1.1.1.1.1.1.1.1.1.1.1.0 (near-grows-y a.t a.limit a.centroids.now a.cells.now a.x (a.x + 1) a.y0 k a.z0 (a.z1 + 1) (omega (arith, l.invariant.0))) (l.invariant.3 w e) t.ensures,
+          w l.marks c.column-in-loop-y.new.marks (near-grows-y a.t a.limit a.centroids.now a.cells.now a.x (a.x + 1) a.y0 k a.z0 (a.z1 + 1) (omega (arith, l.invariant.0))) (l.invariant.3 w e) c.column-in-loop-y.ensures,
     )
 
 pub shape_of-marks : goal.shape_of-marks

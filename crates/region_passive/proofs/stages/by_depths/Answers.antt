@@ -43,15 +43,14 @@ pub loop-s-preserved-then-is_depth : goal.loop-s-preserved-then-is_depth
 unfolding deepened
 loop-s-preserved-then-is_depth c = let a = c.args in
     let l = c.loop-s in
-    let t = c.by_depth in
     let q = sets_of a.nodes.now a.tris.now a.surfaces.now a.starts.now a.kept.now a.depths.now in
-    let one : t.new.1.1.1.1.1.1.1.1.1.1.1.1.0 ≡ deepened q a.centroids.now l.s l.marks = t.ensures ∙ sym (choose-true (is_depth (get_or a.depths.now l.s nan)) _ _ (sym c.is_depth.ensures ∙ c.if-is_depth.true)) in (
+    let one : c.by_depth.new.marks ≡ deepened q a.centroids.now l.s l.marks = c.by_depth.ensures ∙ sym (choose-true (is_depth (get_or a.depths.now l.s nan)) _ _ (sym c.is_depth.ensures ∙ c.if-is_depth.true)) in (
       omega (arith, c.loop-s-test.true),
-      t.auto.1.1.1.1.1.1.1.1.0 ∙ l.invariant.1,
-      t.auto.1.1.1.1.1.1.1.1.1.0 ∙ l.invariant.2,
-      t.auto.1.1.1.1.1.1.1.1.1.1.0 ∙ l.invariant.3,
-      t.auto.1.1.1.1.1.1.1.1.1.1.1.0 ∙ l.invariant.4,
-      t.auto.1.1.1.1.1.1.1.1.1.1.1.1.0 ∙ l.invariant.5,
+      c.by_depth.auto.cells ∙ l.invariant.1,
+      c.by_depth.auto.order ∙ l.invariant.2,
+      c.by_depth.auto.place ∙ l.invariant.3,
+      c.by_depth.auto.first ∙ l.invariant.4,
+      c.by_depth.auto.marks ∙ l.invariant.5,
       one ∙ ap (deepened q a.centroids.now l.s) l.invariant.6 ∙ deepened-more q a.centroids.now l.s a.marks.now,
     )
 

@@ -46,49 +46,39 @@ mark-requires c = let a = c.args in
 
 pub shape_of-marks : goal.shape_of-marks
 shape_of-marks c = let a = c.args in
-    let t = c.mark in
-    length_front a.marks.now t.new.1.1.1.1.1.1.1.1.1.0 (length a.tets.now) t.auto.1.1.1.1.1.1.1.1.1.0
+    length_front a.marks.now c.mark.new.marks (length a.tets.now) c.mark.auto.marks
 
 pub shape_of-keep : goal.shape_of-keep
 shape_of-keep c = let a = c.args in
-    let t = c.mark in
-    length_front a.keep.now t.new.1.1.1.1.1.1.1.1.1.1.0 (length a.nodes.now) t.auto.1.1.1.1.1.1.1.1.1.1.0
+    length_front a.keep.now c.mark.new.keep (length a.nodes.now) c.mark.auto.keep
 
 pub shape_of-centroids : goal.shape_of-centroids
 shape_of-centroids c = let a = c.args in
-    let t = c.mark in
-    length_front a.centroids.now t.new.1.1.1.1.1.1.1.1.1.1.1.0 (length a.tets.now) t.auto.1.1.1.1.1.1.1.1.1.1.1.0
+    length_front a.centroids.now c.mark.new.centroids (length a.tets.now) c.mark.auto.centroids
 
 pub shape_of-cells : goal.shape_of-cells
 shape_of-cells c = let a = c.args in
-    let t = c.mark in
-    length_front a.cells.now t.new.1.1.1.1.1.1.1.1.1.1.1.1.0 (length a.tets.now) t.auto.1.1.1.1.1.1.1.1.1.1.1.1.0
+    length_front a.cells.now c.mark.new.cells (length a.tets.now) c.mark.auto.cells
 
 pub shape_of-order : goal.shape_of-order
 shape_of-order c = let a = c.args in
-    let t = c.mark in
-    length_front a.order.now t.new.1.1.1.1.1.1.1.1.1.1.1.1.1.0 (length a.tets.now) t.auto.1.1.1.1.1.1.1.1.1.1.1.1.1.0
+    length_front a.order.now c.mark.new.order (length a.tets.now) c.mark.auto.order
 
 pub shape_of-place : goal.shape_of-place
 shape_of-place c = let a = c.args in
-    let t = c.mark in
-    length_front a.place.now t.new.1.1.1.1.1.1.1.1.1.1.1.1.1.1.0 (length a.tets.now) t.auto.1.1.1.1.1.1.1.1.1.1.1.1.1.1.0
+    length_front a.place.now c.mark.new.place (length a.tets.now) c.mark.auto.place
 
 pub shape_of-first : goal.shape_of-first
 shape_of-first c = let a = c.args in
-    let t = c.mark in
-    length_front a.first.now t.new.1.1.1.1.1.1.1.1.1.1.1.1.1.1.1.0 (length a.tets.now + 1) t.auto.1.1.1.1.1.1.1.1.1.1.1.1.1.1.1.0
+    length_front a.first.now c.mark.new.first (length a.tets.now + 1) c.mark.auto.first
 
 pub returns : goal.returns
 returns c = let a = c.args in
-    let t = c.mark in (
-      solid-front ((let a = c.args in record { nodes = a.nodes.now; tets = a.tets.now; tris = a.tris.now; surfaces = a.surfaces.now; held = a.held.now; loaded = a.loaded.now; starts = a.starts.now; kept = a.kept.now; depths = a.depths.now })) t.new.1.1.1.1.1.1.1.1.1.0 a.marks.now c.requires.marked t.ensures,
-      record {
-        keeps = drop_at t.new.1.1.1.1.1.1.1.1.1.1.0 (drop (length a.nodes.now) a.keep.now) (length a.nodes.now) (t.auto.1.1.1.1.1.1.1.1.1.1.0 ∙ length-take-le (length a.nodes.now) a.keep.now c.requires.keeps);
-        middled = drop_at t.new.1.1.1.1.1.1.1.1.1.1.1.0 (drop (length a.tets.now) a.centroids.now) (length a.tets.now) (t.auto.1.1.1.1.1.1.1.1.1.1.1.0 ∙ length-take-le (length a.tets.now) a.centroids.now c.requires.middled);
-        celled = drop_at t.new.1.1.1.1.1.1.1.1.1.1.1.1.0 (drop (length a.tets.now) a.cells.now) (length a.tets.now) (t.auto.1.1.1.1.1.1.1.1.1.1.1.1.0 ∙ length-take-le (length a.tets.now) a.cells.now c.requires.celled);
-        orders = drop_at t.new.1.1.1.1.1.1.1.1.1.1.1.1.1.0 (drop (length a.tets.now) a.order.now) (length a.tets.now) (t.auto.1.1.1.1.1.1.1.1.1.1.1.1.1.0 ∙ length-take-le (length a.tets.now) a.order.now c.requires.orders);
-        places = drop_at t.new.1.1.1.1.1.1.1.1.1.1.1.1.1.1.0 (drop (length a.tets.now) a.place.now) (length a.tets.now) (t.auto.1.1.1.1.1.1.1.1.1.1.1.1.1.1.0 ∙ length-take-le (length a.tets.now) a.place.now c.requires.places);
-        firsts = drop_at t.new.1.1.1.1.1.1.1.1.1.1.1.1.1.1.1.0 (drop (length a.tets.now + 1) a.first.now) (length a.tets.now + 1) (t.auto.1.1.1.1.1.1.1.1.1.1.1.1.1.1.1.0 ∙ length-take-le (length a.tets.now + 1) a.first.now c.requires.firsts);
-      },
-    )
+    record { marks_after = solid-front ((let a = c.args in record { nodes = a.nodes.now; tets = a.tets.now; tris = a.tris.now; surfaces = a.surfaces.now; held = a.held.now; loaded = a.loaded.now; starts = a.starts.now; kept = a.kept.now; depths = a.depths.now })) c.mark.new.marks a.marks.now c.requires.marked c.mark.ensures; past = (record {
+        keeps = drop_at c.mark.new.keep (drop (length a.nodes.now) a.keep.now) (length a.nodes.now) (c.mark.auto.keep ∙ length-take-le (length a.nodes.now) a.keep.now c.requires.keeps);
+        middled = drop_at c.mark.new.centroids (drop (length a.tets.now) a.centroids.now) (length a.tets.now) (c.mark.auto.centroids ∙ length-take-le (length a.tets.now) a.centroids.now c.requires.middled);
+        celled = drop_at c.mark.new.cells (drop (length a.tets.now) a.cells.now) (length a.tets.now) (c.mark.auto.cells ∙ length-take-le (length a.tets.now) a.cells.now c.requires.celled);
+        orders = drop_at c.mark.new.order (drop (length a.tets.now) a.order.now) (length a.tets.now) (c.mark.auto.order ∙ length-take-le (length a.tets.now) a.order.now c.requires.orders);
+        places = drop_at c.mark.new.place (drop (length a.tets.now) a.place.now) (length a.tets.now) (c.mark.auto.place ∙ length-take-le (length a.tets.now) a.place.now c.requires.places);
+        firsts = drop_at c.mark.new.first (drop (length a.tets.now + 1) a.first.now) (length a.tets.now + 1) (c.mark.auto.first ∙ length-take-le (length a.tets.now + 1) a.first.now c.requires.firsts);
+      }, ) }
