@@ -1,12 +1,8 @@
 -- `filter_table::beyond` meets its contract. The invariant: what is found is whether a place passed has such a column. Assumes nothing.
-use Prim.Native.Nat.{◌-◌, ◌≤◌}
 use Rattle.filter_table.proofs.beyond.Goals as goal
 use Rattle.lists.proofs.Laws.{any_none, any_step}
-use Rattle.lists.specs.Lists.{any_to}
 use borrow.Author.Rules.{rules}
-use lib.Dec.{leb}
-use lib.ListN.{get_or}
-use mathlib.Core.Path.{◌≡◌, sym}
+use mathlib.Core.Path.{sym}
 use native.Mathlib.Nat.{le_antisymm}
 
 pub loop-k-init : goal.loop-k-init

@@ -1,12 +1,8 @@
 -- `filter_table::falls` meets its contract. The invariant: what is found is whether a start passed is above the next. Assumes nothing.
-use Prim.Native.Nat.{◌+◌, ◌-◌, ◌≤◌}
 use Rattle.filter_table.proofs.falls.Goals as goal
 use Rattle.lists.proofs.Laws.{any_none, any_step}
-use Rattle.lists.specs.Lists.{any_to}
 use borrow.Author.Rules.{rules}
-use lib.Dec.{ltb}
-use lib.ListN.{get_or}
-use mathlib.Core.Path.{◌≡◌, sym}
+use mathlib.Core.Path.{sym}
 use native.Mathlib.Nat.{le_antisymm}
 
 pub loop-e-init : goal.loop-e-init

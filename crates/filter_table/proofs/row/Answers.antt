@@ -1,14 +1,14 @@
 -- `filter_table::row` meets its contract. The invariant: what is added up is the sum over the places passed. Each is within by the `requires`. Assumes nothing.
-use Prim.Native.Nat.{◌-◌, ◌≤◌, ◌<◌}
+use Prim.Native.Nat.{◌<◌}
 use Rattle.filter_table.proofs.Laws.{row_end-within}
 use Rattle.filter_table.proofs.row.Goals as goal
 use Rattle.filter_table.specs.Table.{product, row_sum}
 use Rattle.lists.proofs.Laws.{sum_over-none, sum_over-more, get_d_any}
-use Rattle.lists.specs.Lists.{zero64, sum_over}
+use Rattle.lists.specs.Lists.{zero64}
 use borrow.Author.Rules.{rules}
 use lib.Ieee.{nan}
 use lib.ListN.{length, get_or}
-use mathlib.Core.Path.{◌≡◌, sym}
+use mathlib.Core.Path.{sym}
 use native.Mathlib.Nat.{le_antisymm}
 use native.Mathlib.Omega.{arith}
 
@@ -26,12 +26,12 @@ bounds-x-j c = (let h : get_or c.args.near.now c.loop-k.k 0 < length c.args.x.no
 
 pub loop-k-preserved : goal.loop-k-preserved
 unfolding product
-loop-k-preserved c =     let l = c.loop-k in
+loop-k-preserved c = let l = c.loop-k in
     let a = c.args in
     (search rules, search rules, rw (l.invariant.2, get_d_any a.x.now (get_or a.near.now l.k 0) nan zero64 ((let h : get_or c.args.near.now c.loop-k.k 0 < length c.args.x.now = c.requires.inside c.loop-k.k (omega arith) in h))) (sum_over-more _ _ _ l.invariant.0))
 
 pub returns : goal.returns
 unfolding row_sum
-returns c =     let a = c.args in
+returns c = let a = c.args in
     let l = c.loop-k in
     cc (row_end-within a.near.now a.coef.now a.from a.to c.requires.order c.requires.room c.requires.room-coef, le_antisymm l.invariant.1 c.loop-k-test.false)

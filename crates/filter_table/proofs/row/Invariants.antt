@@ -1,16 +1,9 @@
 -- `filter_table::row` meets its contract. The invariant: what is added up is the sum over the places passed. Each is within by the `requires`. Assumes nothing.
-use Prim.Native.Nat.{◌-◌, ◌≤◌, ◌<◌}
-use Rattle.filter_table.proofs.Laws.{row_end-within}
+use Prim.Native.Nat.{◌-◌, ◌≤◌}
 use Rattle.filter_table.proofs.row.Given as goal
-use Rattle.filter_table.specs.Table.{product, row_sum}
-use Rattle.lists.proofs.Laws.{sum_over-none, sum_over-more, get_d_any}
-use Rattle.lists.specs.Lists.{zero64, sum_over}
-use borrow.Author.Rules.{rules}
-use lib.Ieee.{nan}
-use lib.ListN.{length, get_or}
-use mathlib.Core.Path.{◌≡◌, sym}
-use native.Mathlib.Nat.{le_antisymm}
-use native.Mathlib.Omega.{arith}
+use Rattle.filter_table.specs.Table.{product}
+use Rattle.lists.specs.Lists.{sum_over}
+use mathlib.Core.Path.{◌≡◌}
 
 abbrev pub invariant-loop-k : goal.invariant-loop-k
 invariant-loop-k l = (l.from ≤ l.k) × (l.k ≤ l.to) × (l.t ≡ sum_over (product l.near l.coef l.x) l.from l.k)

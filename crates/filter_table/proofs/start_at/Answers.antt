@@ -1,6 +1,5 @@
 -- `filter_table::start_at` meets its contract: within the list by its test, past the end by the default. Assumes nothing.
 use Rattle.filter_table.proofs.start_at.Goals as goal
-use borrow.Author.Rules.{rules}
 use lib.ListN.{get_or-eq_default}
 use mathlib.Core.Path.{sym}
 use native.Mathlib.Omega.{arith}

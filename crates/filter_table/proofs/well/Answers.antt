@@ -4,7 +4,6 @@ use Rattle.filter_table.proofs.Laws.{any_fails}
 use Rattle.filter_table.proofs.well.Goals as goal
 use Rattle.filter_table.specs.Table.{well_of}
 use Rattle.lists.proofs.Laws.{both}
-use borrow.Author.Rules.{rules}
 use borrow.Author.Tests.{leb-true, lt-ltb, le-ltb, lt-leb}
 use lib.Dec.{leb}
 use lib.ListN.{get_or}
@@ -24,7 +23,7 @@ returns-then-m-lt4294967296 c = rw (lt-ltb _ _ c.if-n-starts.true, c.if-end-near
 
 pub returns-then-end-near : goal.returns-then-end-near
 unfolding well_of
-returns-then-end-near c =     let a = c.args in
+returns-then-end-near c = let a = c.args in
     let small : (k : ℕ) → k < get_or a.starts.now a.n 0 → leb a.m (get_or a.near.now k 0) ≡ false = λ k _. lt-leb a.m (get_or a.near.now k 0) (omega (arith, c.type_inv.near k)) in
     let none = any_fails (λ k. leb a.m (get_or a.near.now k 0)) (get_or a.starts.now a.n 0) small in
     rw (lt-ltb _ _ c.if-n-starts.true, c.if-end-near.true, none, c.falls-then-end-near.ensures) (sym (and-true _))
