@@ -1,5 +1,5 @@
 -- The arithmetic of `near` and `digits`, on natural numbers: the root of n * 2 ^ 52 from a root of n. Assumes nothing.
-use Rattle.std.proofs.Common.{◌≡◌, ℕ, suc, ◌+◌, ◌-◌, ◌*◌, ◌/◌, ◌%◌, ◌^◌, ◌<◌, ◌≤◌, refl, ap, ◌∙◌, subst, le_trans, add_assoc, mod-lt, mul_assoc, mul_comm, add-mul, add_comm, lt_of_not-le, div-add-mod', mul-add, div-mul-le_self, le_of_mul-le-mul_right, mul_left_comm, two-mul, arith}
+use Rattle.std.proofs.Common.{◌≡◌, ℕ, zero, suc, ◌+◌, ◌-◌, ◌*◌, ◌/◌, ◌%◌, ◌^◌, ◌<◌, ◌≤◌, refl, ap, ◌∙◌, subst, le_trans, add_assoc, mod-lt, mul_assoc, mul_comm, add-mul, add_comm, lt_of_not-le, div-add-mod', mul-add, div-mul-le_self, le_of_mul-le-mul_right, mul_left_comm, two-mul, arith}
 use native.Mathlib.Nat.{add_left_comm}
 use native.Mathlib.Decide.{dec_le}
 use Rattle.ieee_root.proofs.Integer.{sq-le, sq-suc}
@@ -18,6 +18,7 @@ pub up : (a q v w : ℕ) → a + w ≡ q * q + v → q + w < v → v ≤ 2 * q �
 up a q v w e h l = record { over = omega (arith, sq-suc q); under = omega (arith, sq-suc q) }
 
 pub dn : (a q v w : ℕ) → a + w ≡ q * q + v → v + q ≤ w → w + 2 < 3 * q → 0 < q → Rounds a (q - 1)
+dn a zero v w e h l z = elim l [ ]
 dn a (suc p) v w e h l z =
     subst (λ (x : ℕ). Rounds a x) (pred_of p)
     (record { over = omega (arith, square); under = omega (arith, square) })

@@ -1,5 +1,5 @@
 -- A finite value is a whole number of the format's smallest values, 2 ^ -low: the root by that number. Assumes nothing.
-use Rattle.std.proofs.Common.{◌≡◌, ℕ, zero, suc, ◌-◌, ◌*◌, ◌/◌, ◌^◌, ◌<◌, ◌≤◌, Bool, true, false, T, ltb, ℤ, sym, refl, ap, ◌∙◌, subst, true≢false, le_refl, lt_of_le_of_lt, lt_irrefl, zero-mul, mul-div_cancel}
+use Rattle.std.proofs.Common.{◌≡◌, ℕ, zero, suc, ◌*◌, ◌/◌, ◌^◌, ◌<◌, ◌≤◌, Bool, true, false, T, ltb, ℤ, sym, refl, ap, ◌∙◌, subst, true≢false, le_refl, lt_of_le_of_lt, lt_irrefl, zero-mul, mul-div_cancel}
 use native.Mathlib.Nat.{eq_of_mul-eq-mul_right}
 use lib.Pow.{pow-lt}
 use lib.Ieee.{Float, nan, inf, fin, Format, prec, low, up, down, odd, units, fits}

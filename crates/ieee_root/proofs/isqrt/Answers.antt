@@ -2,7 +2,7 @@
 use Rattle.ieee_root.proofs.Integer.{sq-le}
 use Rattle.ieee_root.proofs.Newton.{newton_above, newton_below, sq_pos}
 use Rattle.ieee_root.proofs.isqrt.Goals as goal
-use Rattle.std.proofs.Common.{◌+◌, ◌*◌, ◌<◌, ◌≤◌, le_trans, le_of_lt, div-le_self, arith}
+use Rattle.std.proofs.Common.{le_trans, le_of_lt, div-le_self, arith}
 
 pub loop-r-init : goal.loop-r-init
 loop-r-init c = omega arith
@@ -20,7 +20,7 @@ pub loop-r-smaller : goal.loop-r-smaller
 loop-r-smaller c = newton_below c.args.n c.loop-r.r c.loop-r-test.true
 
 pub loop-r-preserved : goal.loop-r-preserved
-loop-r-preserved c =     let n = c.args.n in
+loop-r-preserved c = let n = c.args.n in
     let r = c.loop-r.r in
     (newton_above n r (sq_pos n r c.loop-r-test.true), le_trans (le_of_lt (newton_below n r c.loop-r-test.true)) c.loop-r.invariant.1)
 
