@@ -2,12 +2,12 @@
 use Rattle.ieee.proofs.Comparing.{holds}
 use Rattle.ieee_whole.proofs.Floor.{up-asks, up_small, up_is, neg-asks, neg_small, neg-over, neg-even, neg-whole, low-is, high_is, none_is}
 use Rattle.ieee_whole.proofs.floor_at.Goals as goal
-use Rattle.std.proofs.Common.{arith, le→leb, rules}
+use Rattle.std.proofs.Common.{arith, le→leb}
 use lib.Ieee.{of_bits, neg, in_float}
 
 pub truncating_f64_to_u64-requires : goal.truncating_f64_to_u64-requires
 unfolding of_bits neg
-truncating_f64_to_u64-requires c = up-asks c.args.x c.if-x.true c.if-x-2.true
+truncating_f64_to_u64-requires c = let a = up-asks c.args.x c.if-x.true c.if-x-2.true in record { lower_bound = a.0; upper_bound = a.1 }
 
 pub overflow_add-result : goal.overflow_add-result
 unfolding of_bits neg
@@ -19,7 +19,7 @@ returns-then-x-2 c = rw c.truncating_f64_to_u64.ensures (up_is c.args.x c.if-x.t
 
 pub truncating_f64_to_u64-u-requires : goal.truncating_f64_to_u64-u-requires
 unfolding of_bits neg
-truncating_f64_to_u64-u-requires c = neg-asks c.args.x c.if-x.true c.if-x-2.false c.if-x-3.true
+truncating_f64_to_u64-u-requires c = let a = neg-asks c.args.x c.if-x.true c.if-x-2.false c.if-x-3.true in record { lower_bound = a.0; upper_bound = a.1 }
 
 pub int_to_float-u : goal.int_to_float-u
 unfolding in_float
@@ -27,19 +27,19 @@ int_to_float-u c = le→leb c.truncating_f64_to_u64-u.result 9007199254740992 (o
 
 pub returns-then-u-y : goal.returns-then-u-y
 unfolding of_bits neg
-returns-then-u-y c =     neg-over c.args.x c.if-x.true c.if-x-2.false c.if-x-3.true c.truncating_f64_to_u64-u.result c.truncating_f64_to_u64-u.ensures (omega arith) c.if-u-y.true
+returns-then-u-y c = neg-over c.args.x c.if-x.true c.if-x-2.false c.if-x-3.true c.truncating_f64_to_u64-u.result c.truncating_f64_to_u64-u.ensures (omega arith) c.if-u-y.true
 
 pub returns-then-u-lt9007199254740992 : goal.returns-then-u-lt9007199254740992
 unfolding of_bits neg
-returns-then-u-lt9007199254740992 c =     neg-even c.args.x c.if-x.true c.if-x-2.false c.if-x-3.true c.truncating_f64_to_u64-u.result c.truncating_f64_to_u64-u.ensures (omega arith) c.if-u-y.false
+returns-then-u-lt9007199254740992 c = neg-even c.args.x c.if-x.true c.if-x-2.false c.if-x-3.true c.truncating_f64_to_u64-u.result c.truncating_f64_to_u64-u.ensures (omega arith) c.if-u-y.false
 
 pub overflow_sub-result-then-x-3 : goal.overflow_sub-result-then-x-3
 unfolding of_bits neg
-overflow_sub-result-then-x-3 c =     omega (arith, c.truncating_f64_to_u64-u.ensures, neg_small c.args.x c.if-x.true c.if-x-2.false c.if-x-3.true)
+overflow_sub-result-then-x-3 c = omega (arith, c.truncating_f64_to_u64-u.ensures, neg_small c.args.x c.if-x.true c.if-x-2.false c.if-x-3.true)
 
 pub returns-then-x-3 : goal.returns-then-x-3
 unfolding of_bits neg
-returns-then-x-3 c =     neg-whole c.args.x c.if-x.true c.if-x-2.false c.if-x-3.true c.truncating_f64_to_u64-u.result c.truncating_f64_to_u64-u.ensures (holds c.well_formed.0.1) (omega arith)
+returns-then-x-3 c = neg-whole c.args.x c.if-x.true c.if-x-2.false c.if-x-3.true c.truncating_f64_to_u64-u.result c.truncating_f64_to_u64-u.ensures (holds c.well_formed.0.1) (omega arith)
 
 pub returns-then-x : goal.returns-then-x
 unfolding of_bits neg

@@ -7,7 +7,7 @@ use lib.Ieee.{of_bits}
 
 pub truncating_f64_to_u64-requires : goal.truncating_f64_to_u64-requires
 unfolding of_bits
-truncating_f64_to_u64-requires c = (halved c.args.x (holds c.well_formed.0.1) c.if-x.true c.if-x-2.true).asks
+truncating_f64_to_u64-requires c = let a = (halved c.args.x (holds c.well_formed.0.1) c.if-x.true c.if-x-2.true).asks in record { lower_bound = a.0; upper_bound = a.1 }
 
 pub overflow_add-result : goal.overflow_add-result
 unfolding of_bits
@@ -19,7 +19,7 @@ returns-then-x-2 c = rw c.truncating_f64_to_u64.ensures (halved c.args.x (holds 
 
 pub truncating_f64_to_u64-requires-then-x-3 : goal.truncating_f64_to_u64-requires-then-x-3
 unfolding of_bits
-truncating_f64_to_u64-requires-then-x-3 c = whole-asks c.args.x c.if-x.true c.if-x-3.true
+truncating_f64_to_u64-requires-then-x-3 c = let a = whole-asks c.args.x c.if-x.true c.if-x-3.true in record { lower_bound = a.0; upper_bound = a.1 }
 
 pub returns-then-x-3 : goal.returns-then-x-3
 unfolding of_bits
