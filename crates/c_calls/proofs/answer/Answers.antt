@@ -31,7 +31,7 @@ pub shape_of-dv : goal.shape_of-dv
 shape_of-dv c = c.answer_core-s.auto.dv
 
 pub returns : goal.returns
-returns c =     let a = c.args in
+returns c = let a = c.args in
     answered_as _ _ c.unknown.ensures c.if-unknown.left _ c.state_of.ensures
     (λ heard. record { heard = heard; energies = a.energies.now })
     _ _ c.heard_of.ensures _ _ _ _ _ _ _ c.step_numbers.ensures c.answer_core-s.ensures

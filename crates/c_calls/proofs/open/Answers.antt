@@ -46,7 +46,7 @@ pub shape_of-bits : goal.shape_of-bits
 shape_of-bits c = c.open_core-r.auto.bits
 
 pub returns : goal.returns
-returns c =     let a = c.args in
+returns c = let a = c.args in
     opened_as _ _ _ _ c.unknown.ensures c.no_goal.ensures c.if-t.left _ c.state_of.ensures
     (λ goal. record { centroids = a.centroids.now; mirrors = a.mirrors.now; goal = goal; flag = a.flag })
     _ _ c.goal_of.ensures _ _ _ _ _ _ _ c.returned_numbers.ensures c.open_core-r.ensures

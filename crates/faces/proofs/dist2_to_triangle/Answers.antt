@@ -151,32 +151,32 @@ module _ (c : tie.After-dot6) where
 
 pub returns-then-d1-d2 : goal.returns-then-d1-d2
 unfolding dist2_to_triangle
-returns-then-d1-d2 c =     c.len2.ensures ∙ ap len2 c.sub-ap.ensures ∙ sym (region1 _ _ _ _ _ _ _ _ _ _ _ _ _ (sym (test-a c.before.before) ∙ c.if-d1-d2.true))
+returns-then-d1-d2 c = c.len2.ensures ∙ ap len2 c.sub-ap.ensures ∙ sym (region1 _ _ _ _ _ _ _ _ _ _ _ _ _ (sym (test-a c.before.before) ∙ c.if-d1-d2.true))
 
 pub returns-then-d3-d4 : goal.returns-then-d3-d4
 unfolding dist2_to_triangle
-returns-then-d3-d4 c =     c.len2-then-d3-d4.ensures ∙ ap len2 c.sub-bp.ensures ∙ sym (region2 _ _ _ _ _ _ _ _ _ _ _ _ _ (left-a c.before.before) (sym (test-b c.before.before) ∙ c.if-d3-d4.true))
+returns-then-d3-d4 c = c.len2-then-d3-d4.ensures ∙ ap len2 c.sub-bp.ensures ∙ sym (region2 _ _ _ _ _ _ _ _ _ _ _ _ _ (left-a c.before.before) (sym (test-b c.before.before) ∙ c.if-d3-d4.true))
 
 pub returns-then-vc-d1 : goal.returns-then-vc-d1
 unfolding dist2_to_triangle
-returns-then-vc-d1 c =     let near : c.add.result ≡ T.on_ab (P (c2 c.before.before.before.before.before.before)) (A (c2 c.before.before.before.before.before.before)) (B (c2 c.before.before.before.before.before.before)) (C (c2 c.before.before.before.before.before.before)) = c.add.ensures ∙ ap (plus (A (c2 c.before.before.before.before.before.before))) (c.scale.ensures ∙ (λ i. scaled ((c2 c.before.before.before.before.before.before).before.before.before.before.sub.ensures i) (div binary64 (is-d1 (c2 c.before.before.before.before.before.before) i) (sub binary64 (is-d1 (c2 c.before.before.before.before.before.before) i) (is-d3 c.before.before.before.before.before.before i))))) in
+returns-then-vc-d1 c = let near : c.add.result ≡ T.on_ab (P (c2 c.before.before.before.before.before.before)) (A (c2 c.before.before.before.before.before.before)) (B (c2 c.before.before.before.before.before.before)) (C (c2 c.before.before.before.before.before.before)) = c.add.ensures ∙ ap (plus (A (c2 c.before.before.before.before.before.before))) (c.scale.ensures ∙ (λ i. scaled ((c2 c.before.before.before.before.before.before).before.before.before.before.sub.ensures i) (div binary64 (is-d1 (c2 c.before.before.before.before.before.before) i) (sub binary64 (is-d1 (c2 c.before.before.before.before.before.before) i) (is-d3 c.before.before.before.before.before.before i))))) in
     c.len2-then-vc-d1.ensures ∙ ap len2 (c.sub.ensures ∙ ap (less (P (c2 c.before.before.before.before.before.before))) near)
     ∙ sym (region3 _ _ _ _ _ _ _ _ _ _ _ _ _ (left-a c.before.before.before.before.before.before) (sym (test-b c.before.before.before.before.before.before) ∙ c.if-d3-d4.false) (sym (test-ab c.before.before.before.before.before.before) ∙ c.if-vc-d1.true))
 
 pub returns-then-d6-d5 : goal.returns-then-d6-d5
 unfolding dist2_to_triangle
-returns-then-d6-d5 c =     c.len2-then-d6-d5.ensures ∙ ap len2 c.sub-cp.ensures ∙ sym (region4 _ _ _ _ _ _ _ _ _ _ _ _ _ (left-a (c4 c.before.before)) (left-b c.before.before) (left-ab c.before.before) (sym (test-c c.before.before) ∙ c.if-d6-d5.true))
+returns-then-d6-d5 c = c.len2-then-d6-d5.ensures ∙ ap len2 c.sub-cp.ensures ∙ sym (region4 _ _ _ _ _ _ _ _ _ _ _ _ _ (left-a (c4 c.before.before)) (left-b c.before.before) (left-ab c.before.before) (sym (test-c c.before.before) ∙ c.if-d6-d5.true))
 
 pub returns-then-vb-d2 : goal.returns-then-vb-d2
 unfolding dist2_to_triangle
-returns-then-vb-d2 c =     let e = c2 (c4 c.before.before.before.before.before.before) in
+returns-then-vb-d2 c = let e = c2 (c4 c.before.before.before.before.before.before) in
     let near : c.add-then-vb-d2.result ≡ T.on_ac (P e) (A e) (B e) (C e) = c.add-then-vb-d2.ensures ∙ ap (plus (A e)) (c.scale-then-vb-d2.ensures ∙ (λ i. scaled (e.before.before.before.sub2.ensures i) (div binary64 (is-d2 e i) (sub binary64 (is-d2 e i) (is-d6 c.before.before.before.before.before.before i))))) in
     c.len2-then-vb-d2.ensures ∙ ap len2 (c.sub-then-vb-d2.ensures ∙ ap (less (P e)) near)
     ∙ sym (region5 _ _ _ _ _ _ _ _ _ _ _ _ _ (left-a (c4 c.before.before.before.before.before.before)) (left-b c.before.before.before.before.before.before) (left-ab c.before.before.before.before.before.before) (sym (test-c c.before.before.before.before.before.before) ∙ c.if-d6-d5.false) (sym (test-ac c.before.before.before.before.before.before) ∙ c.if-vb-d2.true))
 
 pub returns-then-va-d4 : goal.returns-then-va-d4
 unfolding dist2_to_triangle
-returns-then-va-d4 c =     let e = c2 (c4 c.before.before.before.before.before.before.before.before) in
+returns-then-va-d4 c = let e = c2 (c4 c.before.before.before.before.before.before.before.before) in
     let near : c.add-then-va-d4.result ≡ T.on_bc (P e) (A e) (B e) (C e) =
     c.add-then-va-d4.ensures
     ∙ ap (plus (B e)) (c.scale-then-va-d4.ensures
@@ -186,7 +186,7 @@ returns-then-va-d4 c =     let e = c2 (c4 c.before.before.before.before.before.b
 
 pub returns : goal.returns
 unfolding dist2_to_triangle
-returns c =     let e = c2 (c4 c.before.before.before.before.before.before.before.before.before) in
+returns c = let e = c2 (c4 c.before.before.before.before.before.before.before.before.before) in
     let den : div binary64 one64 (add binary64 (add binary64 (sub binary64 (mul binary64 (D3 c.before.before.before.before.before.before.before.before.before) (D6 c.before.before.before.before.before.before.before.before.before)) (mul binary64 (D5 c.before.before.before.before.before.before.before.before.before) (D4 c.before.before.before.before.before.before.before.before.before))) (sub binary64 (mul binary64 (D5 c.before.before.before.before.before.before.before.before.before) (D2 c.before.before.before.before.before.before.before.before.before)) (mul binary64 (D1 c.before.before.before.before.before.before.before.before.before) (D6 c.before.before.before.before.before.before.before.before.before)))) (sub binary64 (mul binary64 (D1 c.before.before.before.before.before.before.before.before.before) (D4 c.before.before.before.before.before.before.before.before.before)) (mul binary64 (D3 c.before.before.before.before.before.before.before.before.before) (D2 c.before.before.before.before.before.before.before.before.before)))) ≡ T.denom (P e) (A e) (B e) (C e) = λ i. div binary64 one64 (add binary64 (add binary64 (is-va c.before.before.before.before.before.before.before.before.before i) (is-vb c.before.before.before.before.before.before.before.before.before i)) (is-vc (c4 c.before.before.before.before.before.before.before.before.before) i)) in
     let along-ab : c.add-2.result ≡ plus (A e) (scaled (T.ab (P e) (A e) (B e) (C e)) (mul binary64 (T.vb (P e) (A e) (B e) (C e)) (T.denom (P e) (A e) (B e) (C e)))) =
     c.add-2.ensures ∙ ap (plus (A e)) (c.scale-2.ensures ∙ (λ i. scaled (e.before.before.before.before.sub.ensures i) (mul binary64 (is-vb c.before.before.before.before.before.before.before.before.before i) (den i)))) in

@@ -27,6 +27,6 @@ loop-e-preserved c = (search rules, search rules, rw (c.loop-e.invariant.2, c.ro
 
 pub returns : goal.returns
 unfolding applied
-returns c =     let a = c.args in
+returns c = let a = c.args in
     let whole = overwrite-all (λ e. row_sum a.near.now a.coef.now a.x.now (get_or a.starts.now e 0) (get_or a.starts.now (e + 1) 0)) _ a.out.now refl in
     cc (c.loop-e.invariant.2, le_antisymm c.loop-e.invariant.0 (omega arith), whole)

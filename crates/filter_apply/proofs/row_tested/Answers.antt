@@ -18,18 +18,18 @@ pub row_end-end-requires : goal.row_end-end-requires
 row_end-end-requires c = tt
 
 pub loop-k-init : goal.loop-k-init
-loop-k-init c =     let a = c.args in
+loop-k-init c = let a = c.args in
     let h = row_end-from a.near.now a.coef.now a.from a.to in
     (search rules, omega arith, sym (fold_over-none _ _ _ _ (omega arith)))
 
 pub sum_four-t-requires : goal.sum_four-t-requires
-sum_four-t-requires c =     let a = c.args in
+sum_four-t-requires c = let a = c.args in
     let l = c.loop-k in
     let h = row_end-room a.near.now a.coef.now a.from a.to (l.k + 3) (omega (arith, l.invariant.0)) (omega arith) in
     (omega (arith, h.0), omega (arith, h.1))
 
 pub loop-k-preserved : goal.loop-k-preserved
-loop-k-preserved c =     let a = c.args in
+loop-k-preserved c = let a = c.args in
     let l = c.loop-k in
     let f = plus_product a.near.now a.coef.now a.x.now in
     (search rules, search rules, c.sum_four-t.ensures ∙ ap (λ (x : Float). f (l.k + 3) (f (l.k + 2) (f (l.k + 1) (f l.k x)))) l.invariant.2 ∙ four-turns f zero64 a.from l.k l.invariant.0)
@@ -57,12 +57,12 @@ at-requires c = tt
 
 pub loop-k-2-preserved : goal.loop-k-2-preserved
 unfolding product
-loop-k-2-preserved c =     let l = c.loop-k-2 in
+loop-k-2-preserved c = let l = c.loop-k-2 in
     (search rules, search rules, search rules, rw (l.invariant.3, c.at.ensures) (fold_over-more _ _ _ _ l.invariant.1))
 
 pub returns : goal.returns
 unfolding row_sum sum_over
-returns c =     let a = c.args in
+returns c = let a = c.args in
     let l = c.loop-k in
     let l2 = c.loop-k-2 in
     let f = plus_product a.near.now a.coef.now a.x.now in

@@ -20,7 +20,7 @@ pub overflow_cast-d : goal.overflow_cast-d
 overflow_cast-d c = omega (arith, c.type_inv.near (c.args.k + 3))
 
 pub sum_in-requires : goal.sum_in-requires
-sum_in-requires c =     let abc-d = both _ _ c.if-a-n.true in
+sum_in-requires c = let abc-d = both _ _ c.if-a-n.true in
     let ab-c = both _ _ abc-d.0 in
     let a-b = both _ _ ab-c.0 in
     (ltb-true _ _ a-b.0, ltb-true _ _ a-b.1, ltb-true _ _ ab-c.1, ltb-true _ _ abc-d.1)

@@ -9,6 +9,6 @@ use lib.ListN.{length, get_or}
 use mathlib.Core.Path.{◌≡◌}
 
 pub returns : goal.returns
-returns c =     let a = c.args in
+returns c = let a = c.args in
     let read : (j : ℕ) → j < length a.x.now → get_or a.x.now j nan ≡ get_or a.x.now j zero64 = λ j h. get_d_any a.x.now j nan zero64 h in
     rw (read a.a c.requires.0, read a.b c.requires.1, read a.c c.requires.2, read a.d c.requires.3)

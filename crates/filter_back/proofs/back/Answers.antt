@@ -27,7 +27,7 @@ pub share-requires : goal.share-requires
 share-requires c = tt
 
 pub loop-e-preserved : goal.loop-e-preserved
-loop-e-preserved c =     let l = c.loop-e in
+loop-e-preserved c = let l = c.loop-e in
     let g = c.args.g.now in
     (search rules, search rules, rw (c.share.ensures, c.start_at-to.ensures, c.start_at-from.ensures, get_d_any g l.e nan zero64 (omega arith), l.invariant.2) (fold_to-more _ _ _))
 

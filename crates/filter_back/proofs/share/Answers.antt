@@ -17,24 +17,24 @@ pub row_end-end-requires : goal.row_end-end-requires
 row_end-end-requires c = tt
 
 pub loop-k-init : goal.loop-k-init
-loop-k-init c =     let a = c.args in
+loop-k-init c = let a = c.args in
     let h = row_end-from a.near.now a.coef.now a.from a.to in
     (search rules, omega arith, refl, sym (fold_over-none _ _ _ _ (omega arith)))
 
 pub add_four-requires : goal.add_four-requires
-add_four-requires c =     let a = c.args in
+add_four-requires c = let a = c.args in
     let l = c.loop-k in
     let h = row_end-room a.near.now a.coef.now a.from a.to (l.k + 3) (omega (arith, l.invariant.0)) (omega arith) in
     (omega (arith, h.0), omega (arith, h.1))
 
 pub loop-k-preserved : goal.loop-k-preserved
-loop-k-preserved c =     let a = c.args in
+loop-k-preserved c = let a = c.args in
     let l = c.loop-k in
     let f = add_to a.near.now a.coef.now a.v in
     (search rules, search rules, search rules, c.add_four.ensures ∙ ap (λ (x : List Float). f (l.k + 3) (f (l.k + 2) (f (l.k + 1) (f l.k x)))) l.invariant.3 ∙ four-turns f a.out.now a.from l.k l.invariant.0)
 
 pub loop-k-2-init : goal.loop-k-2-init
-loop-k-2-init c =     (search rules, omega arith, search rules, refl, sym (fold_over-none _ _ _ _ (omega arith)))
+loop-k-2-init c = (search rules, omega arith, search rules, refl, sym (fold_over-none _ _ _ _ (omega arith)))
 
 pub offset_bounds-near-k : goal.offset_bounds-near-k
 offset_bounds-near-k c = omega (arith, (let h : (c.loop-k-2.k < length c.args.near.now) × (c.loop-k-2.k < length c.args.coef.now) = let a = c.args in let l = c.loop-k-2 in row_end-room a.near.now a.coef.now a.from a.to l.k (omega (arith, l.invariant.0, l.invariant.1)) (omega arith) in h))
@@ -56,12 +56,12 @@ add_to-requires c = tt
 
 pub loop-k-2-preserved : goal.loop-k-2-preserved
 unfolding add_to
-loop-k-2-preserved c =     let l = c.loop-k-2 in
+loop-k-2-preserved c = let l = c.loop-k-2 in
     (search rules, search rules, search rules, search rules, rw (c.add_to.ensures, l.invariant.4) (fold_over-more _ _ _ _ l.invariant.1))
 
 pub returns : goal.returns
 unfolding row_share
-returns c =     let a = c.args in
+returns c = let a = c.args in
     let l = c.loop-k in
     let l2 = c.loop-k-2 in
     let f = add_to a.near.now a.coef.now a.v in

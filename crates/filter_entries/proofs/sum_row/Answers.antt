@@ -20,16 +20,16 @@ pub overflow_cast-i : goal.overflow_cast-i
 overflow_cast-i c = omega (arith, c.type_inv.found c.loop-k.k)
 
 pub offset_bounds-weight-i : goal.offset_bounds-weight-i
-offset_bounds-weight-i c = omega (arith, (let h : get_or c.args.found.now c.loop-k.k 0 < length c.args.weight.now = c.requires.0.below c.loop-k.k c.loop-k-test.true in h))
+offset_bounds-weight-i c = omega (arith, (c.requires.0.below c.loop-k.k c.loop-k-test.true))
 
 pub bounds-weight-i : goal.bounds-weight-i
-bounds-weight-i c = (let h : get_or c.args.found.now c.loop-k.k 0 < length c.args.weight.now = c.requires.0.below c.loop-k.k c.loop-k-test.true in h)
+bounds-weight-i c = (c.requires.0.below c.loop-k.k c.loop-k-test.true)
 
 pub offset_bounds-volumes-i : goal.offset_bounds-volumes-i
-offset_bounds-volumes-i c = omega (arith, (let h : get_or c.args.found.now c.loop-k.k 0 < length c.args.weight.now = c.requires.0.below c.loop-k.k c.loop-k-test.true in h))
+offset_bounds-volumes-i c = omega (arith, (c.requires.0.below c.loop-k.k c.loop-k-test.true))
 
 pub bounds-volumes-i : goal.bounds-volumes-i
-bounds-volumes-i c = omega (arith, (let h : get_or c.args.found.now c.loop-k.k 0 < length c.args.weight.now = c.requires.0.below c.loop-k.k c.loop-k-test.true in h), c.requires.1)
+bounds-volumes-i c = omega (arith, (c.requires.0.below c.loop-k.k c.loop-k-test.true), c.requires.1)
 
 pub loop-k-preserved : goal.loop-k-preserved
 loop-k-preserved c = (search rules, rw c.loop-k.invariant.1 (sum_to-more _ _))

@@ -28,6 +28,6 @@ returns c = let a = c.args in
     let many = c.requires.ready.0.many in
     let l = c.gather-count.ensures.lists_2 in
     record { rowed = row_rowed a.centroids.now a.g.radius a.planes.now a.volumes.now a.e a.at c.gather-count.result c.gather-count.new.stamp c.gather-count.new.weight a.near.now a.coef.now
-          c.settle.result.number c.settle.result.end c.settle.new.found c.settle.new.weight c.settle.new.near c.settle.new.coef c.gather-count.ensures.gathered_2 (l.stamps ∙ many) (l.weights ∙ many) l.counted c.settle.ensures; clean_2 = (λ ok. row-clean a.centroids.now a.g.radius a.planes.now a.volumes.now a.e a.at c.gather-count.result c.gather-count.new.stamp c.gather-count.new.weight a.near.now a.coef.now
+          c.settle.result.number c.settle.result.end c.settle.new.found c.settle.new.weight c.settle.new.near c.settle.new.coef c.gather-count.ensures.gathered_2 (l.stamps ∙ many) (l.weights ∙ many) l.counted c.settle.ensures; clean_2 = λ ok. row-clean a.centroids.now a.g.radius a.planes.now a.volumes.now a.e a.at c.gather-count.result c.gather-count.new.stamp c.gather-count.new.weight a.near.now a.coef.now
           c.settle.result.number c.settle.result.end c.settle.new.found c.settle.new.weight c.settle.new.near c.settle.new.coef c.gather-count.ensures.gathered_2 (l.stamps ∙ many) (l.weights ∙ many) l.counted c.settle.ensures
-          ok c.settle.new.bits k.few (omega (arith, l.maps, c.settle.auto.bits)), ) }
+          ok c.settle.new.bits k.few (omega (arith, l.maps, c.settle.auto.bits)) }

@@ -5,5 +5,5 @@ use borrow.Author.Rules.{rules}
 use mathlib.Core.Path.{◌∙◌}
 
 pub returns : goal.returns
-returns c =     let a = c.args in
+returns c = let a = c.args in
     c.add-3.ensures ∙ (λ i. plus ((c.add-2.ensures ∙ (λ j. plus (c.add.ensures j) a.m2)) i) a.m3)

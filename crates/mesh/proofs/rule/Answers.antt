@@ -98,7 +98,7 @@ share-s3-requires c = tt
 
 pub returns : goal.returns
 unfolding rule_of share_at moves
-returns c =     let s0 =
+returns c = let s0 =
     c.share-s0.ensures
     ∙ (λ i. share_by
     ((c.moves.ensures ∙ (λ j. added (c.corner-c0.ensures j).a (c.middle-m4.ensures j).b (c.middle-m6.ensures j).b (c.middle-m7.ensures j).b)) i)

@@ -24,7 +24,7 @@ look-x1-requires c = let k : Kept 1 (filing c.args.nodes.now c.args.edges.now c.
     }
 
 pub look-x2-requires : goal.look-x2-requires
-look-x2-requires c = let k : Kept 2 (filing c.args.nodes.now c.args.edges.now c.args.next) ((filing c.look-x1.new.nodes c.look-x1.new.edges c.look-x1.result.next)) = keeps-more _ 1 _ _ _ _ ((let h : Kept 1 (filing c.args.nodes.now c.args.edges.now c.args.next) ((filing c.look-x0.new.nodes c.look-x0.new.edges c.look-x0.result.next)) = keeps-one _ _ _ _ c.look-x0.ensures.filing in h)) c.look-x1.ensures.filing in
+look-x2-requires c = let k : Kept 2 (filing c.args.nodes.now c.args.edges.now c.args.next) ((filing c.look-x1.new.nodes c.look-x1.new.edges c.look-x1.result.next)) = keeps-more _ 1 _ _ _ _ (keeps-one _ _ _ _ c.look-x0.ensures.filing) c.look-x1.ensures.filing in
     record {
       small = c.requires.0.small;
       low = c.requires.1.low;
@@ -35,7 +35,7 @@ look-x2-requires c = let k : Kept 2 (filing c.args.nodes.now c.args.edges.now c.
     }
 
 pub look-x3-requires : goal.look-x3-requires
-look-x3-requires c = let k : Kept 3 (filing c.args.nodes.now c.args.edges.now c.args.next) ((filing c.look-x2.new.nodes c.look-x2.new.edges c.look-x2.result.next)) = keeps-more _ 2 _ _ _ _ ((let h : Kept 2 (filing c.args.nodes.now c.args.edges.now c.args.next) ((filing c.look-x1.new.nodes c.look-x1.new.edges c.look-x1.result.next)) = keeps-more _ 1 _ _ _ _ ((let h : Kept 1 (filing c.args.nodes.now c.args.edges.now c.args.next) ((filing c.look-x0.new.nodes c.look-x0.new.edges c.look-x0.result.next)) = keeps-one _ _ _ _ c.look-x0.ensures.filing in h)) c.look-x1.ensures.filing in h)) c.look-x2.ensures.filing in
+look-x3-requires c = let k : Kept 3 (filing c.args.nodes.now c.args.edges.now c.args.next) ((filing c.look-x2.new.nodes c.look-x2.new.edges c.look-x2.result.next)) = keeps-more _ 2 _ _ _ _ ((let h : Kept 2 (filing c.args.nodes.now c.args.edges.now c.args.next) ((filing c.look-x1.new.nodes c.look-x1.new.edges c.look-x1.result.next)) = keeps-more _ 1 _ _ _ _ (keeps-one _ _ _ _ c.look-x0.ensures.filing) c.look-x1.ensures.filing in h)) c.look-x2.ensures.filing in
     record {
       small = c.requires.0.small;
       low = c.requires.0.low;
@@ -46,7 +46,7 @@ look-x3-requires c = let k : Kept 3 (filing c.args.nodes.now c.args.edges.now c.
     }
 
 pub look-x4-requires : goal.look-x4-requires
-look-x4-requires c = let k : Kept 4 (filing c.args.nodes.now c.args.edges.now c.args.next) ((filing c.look-x3.new.nodes c.look-x3.new.edges c.look-x3.result.next)) = keeps-more _ 3 _ _ _ _ ((let h : Kept 3 (filing c.args.nodes.now c.args.edges.now c.args.next) ((filing c.look-x2.new.nodes c.look-x2.new.edges c.look-x2.result.next)) = keeps-more _ 2 _ _ _ _ ((let h : Kept 2 (filing c.args.nodes.now c.args.edges.now c.args.next) ((filing c.look-x1.new.nodes c.look-x1.new.edges c.look-x1.result.next)) = keeps-more _ 1 _ _ _ _ ((let h : Kept 1 (filing c.args.nodes.now c.args.edges.now c.args.next) ((filing c.look-x0.new.nodes c.look-x0.new.edges c.look-x0.result.next)) = keeps-one _ _ _ _ c.look-x0.ensures.filing in h)) c.look-x1.ensures.filing in h)) c.look-x2.ensures.filing in h)) c.look-x3.ensures.filing in
+look-x4-requires c = let k : Kept 4 (filing c.args.nodes.now c.args.edges.now c.args.next) ((filing c.look-x3.new.nodes c.look-x3.new.edges c.look-x3.result.next)) = keeps-more _ 3 _ _ _ _ ((let h : Kept 3 (filing c.args.nodes.now c.args.edges.now c.args.next) ((filing c.look-x2.new.nodes c.look-x2.new.edges c.look-x2.result.next)) = keeps-more _ 2 _ _ _ _ ((let h : Kept 2 (filing c.args.nodes.now c.args.edges.now c.args.next) ((filing c.look-x1.new.nodes c.look-x1.new.edges c.look-x1.result.next)) = keeps-more _ 1 _ _ _ _ (keeps-one _ _ _ _ c.look-x0.ensures.filing) c.look-x1.ensures.filing in h)) c.look-x2.ensures.filing in h)) c.look-x3.ensures.filing in
     record {
       small = c.requires.0.small;
       low = c.requires.1.low;
@@ -57,7 +57,7 @@ look-x4-requires c = let k : Kept 4 (filing c.args.nodes.now c.args.edges.now c.
     }
 
 pub look-x5-requires : goal.look-x5-requires
-look-x5-requires c = let k : Kept 5 (filing c.args.nodes.now c.args.edges.now c.args.next) ((filing c.look-x4.new.nodes c.look-x4.new.edges c.look-x4.result.next)) = keeps-more _ 4 _ _ _ _ ((let h : Kept 4 (filing c.args.nodes.now c.args.edges.now c.args.next) ((filing c.look-x3.new.nodes c.look-x3.new.edges c.look-x3.result.next)) = keeps-more _ 3 _ _ _ _ ((let h : Kept 3 (filing c.args.nodes.now c.args.edges.now c.args.next) ((filing c.look-x2.new.nodes c.look-x2.new.edges c.look-x2.result.next)) = keeps-more _ 2 _ _ _ _ ((let h : Kept 2 (filing c.args.nodes.now c.args.edges.now c.args.next) ((filing c.look-x1.new.nodes c.look-x1.new.edges c.look-x1.result.next)) = keeps-more _ 1 _ _ _ _ ((let h : Kept 1 (filing c.args.nodes.now c.args.edges.now c.args.next) ((filing c.look-x0.new.nodes c.look-x0.new.edges c.look-x0.result.next)) = keeps-one _ _ _ _ c.look-x0.ensures.filing in h)) c.look-x1.ensures.filing in h)) c.look-x2.ensures.filing in h)) c.look-x3.ensures.filing in h)) c.look-x4.ensures.filing in
+look-x5-requires c = let k : Kept 5 (filing c.args.nodes.now c.args.edges.now c.args.next) ((filing c.look-x4.new.nodes c.look-x4.new.edges c.look-x4.result.next)) = keeps-more _ 4 _ _ _ _ ((let h : Kept 4 (filing c.args.nodes.now c.args.edges.now c.args.next) ((filing c.look-x3.new.nodes c.look-x3.new.edges c.look-x3.result.next)) = keeps-more _ 3 _ _ _ _ ((let h : Kept 3 (filing c.args.nodes.now c.args.edges.now c.args.next) ((filing c.look-x2.new.nodes c.look-x2.new.edges c.look-x2.result.next)) = keeps-more _ 2 _ _ _ _ ((let h : Kept 2 (filing c.args.nodes.now c.args.edges.now c.args.next) ((filing c.look-x1.new.nodes c.look-x1.new.edges c.look-x1.result.next)) = keeps-more _ 1 _ _ _ _ (keeps-one _ _ _ _ c.look-x0.ensures.filing) c.look-x1.ensures.filing in h)) c.look-x2.ensures.filing in h)) c.look-x3.ensures.filing in h)) c.look-x4.ensures.filing in
     record {
       small = c.requires.0.small;
       low = c.requires.0.high;
@@ -68,10 +68,10 @@ look-x5-requires c = let k : Kept 5 (filing c.args.nodes.now c.args.edges.now c.
     }
 
 pub shape_of-nodes : goal.shape_of-nodes
-shape_of-nodes c = ((let h : Kept 6 (filing c.args.nodes.now c.args.edges.now c.args.next) ((filing c.look-x5.new.nodes c.look-x5.new.edges c.look-x5.result.next)) = keeps-more _ 5 _ _ _ _ ((let h : Kept 5 (filing c.args.nodes.now c.args.edges.now c.args.next) ((filing c.look-x4.new.nodes c.look-x4.new.edges c.look-x4.result.next)) = keeps-more _ 4 _ _ _ _ ((let h : Kept 4 (filing c.args.nodes.now c.args.edges.now c.args.next) ((filing c.look-x3.new.nodes c.look-x3.new.edges c.look-x3.result.next)) = keeps-more _ 3 _ _ _ _ ((let h : Kept 3 (filing c.args.nodes.now c.args.edges.now c.args.next) ((filing c.look-x2.new.nodes c.look-x2.new.edges c.look-x2.result.next)) = keeps-more _ 2 _ _ _ _ ((let h : Kept 2 (filing c.args.nodes.now c.args.edges.now c.args.next) ((filing c.look-x1.new.nodes c.look-x1.new.edges c.look-x1.result.next)) = keeps-more _ 1 _ _ _ _ ((let h : Kept 1 (filing c.args.nodes.now c.args.edges.now c.args.next) ((filing c.look-x0.new.nodes c.look-x0.new.edges c.look-x0.result.next)) = keeps-one _ _ _ _ c.look-x0.ensures.filing in h)) c.look-x1.ensures.filing in h)) c.look-x2.ensures.filing in h)) c.look-x3.ensures.filing in h)) c.look-x4.ensures.filing in h)) c.look-x5.ensures.filing in h)).nodes-long
+shape_of-nodes c = ((let h : Kept 6 (filing c.args.nodes.now c.args.edges.now c.args.next) ((filing c.look-x5.new.nodes c.look-x5.new.edges c.look-x5.result.next)) = keeps-more _ 5 _ _ _ _ ((let h : Kept 5 (filing c.args.nodes.now c.args.edges.now c.args.next) ((filing c.look-x4.new.nodes c.look-x4.new.edges c.look-x4.result.next)) = keeps-more _ 4 _ _ _ _ ((let h : Kept 4 (filing c.args.nodes.now c.args.edges.now c.args.next) ((filing c.look-x3.new.nodes c.look-x3.new.edges c.look-x3.result.next)) = keeps-more _ 3 _ _ _ _ ((let h : Kept 3 (filing c.args.nodes.now c.args.edges.now c.args.next) ((filing c.look-x2.new.nodes c.look-x2.new.edges c.look-x2.result.next)) = keeps-more _ 2 _ _ _ _ ((let h : Kept 2 (filing c.args.nodes.now c.args.edges.now c.args.next) ((filing c.look-x1.new.nodes c.look-x1.new.edges c.look-x1.result.next)) = keeps-more _ 1 _ _ _ _ (keeps-one _ _ _ _ c.look-x0.ensures.filing) c.look-x1.ensures.filing in h)) c.look-x2.ensures.filing in h)) c.look-x3.ensures.filing in h)) c.look-x4.ensures.filing in h)) c.look-x5.ensures.filing in h)).nodes-long
 
 pub shape_of-edges : goal.shape_of-edges
-shape_of-edges c = ((let h : Kept 6 (filing c.args.nodes.now c.args.edges.now c.args.next) ((filing c.look-x5.new.nodes c.look-x5.new.edges c.look-x5.result.next)) = keeps-more _ 5 _ _ _ _ ((let h : Kept 5 (filing c.args.nodes.now c.args.edges.now c.args.next) ((filing c.look-x4.new.nodes c.look-x4.new.edges c.look-x4.result.next)) = keeps-more _ 4 _ _ _ _ ((let h : Kept 4 (filing c.args.nodes.now c.args.edges.now c.args.next) ((filing c.look-x3.new.nodes c.look-x3.new.edges c.look-x3.result.next)) = keeps-more _ 3 _ _ _ _ ((let h : Kept 3 (filing c.args.nodes.now c.args.edges.now c.args.next) ((filing c.look-x2.new.nodes c.look-x2.new.edges c.look-x2.result.next)) = keeps-more _ 2 _ _ _ _ ((let h : Kept 2 (filing c.args.nodes.now c.args.edges.now c.args.next) ((filing c.look-x1.new.nodes c.look-x1.new.edges c.look-x1.result.next)) = keeps-more _ 1 _ _ _ _ ((let h : Kept 1 (filing c.args.nodes.now c.args.edges.now c.args.next) ((filing c.look-x0.new.nodes c.look-x0.new.edges c.look-x0.result.next)) = keeps-one _ _ _ _ c.look-x0.ensures.filing in h)) c.look-x1.ensures.filing in h)) c.look-x2.ensures.filing in h)) c.look-x3.ensures.filing in h)) c.look-x4.ensures.filing in h)) c.look-x5.ensures.filing in h)).edges-long
+shape_of-edges c = ((let h : Kept 6 (filing c.args.nodes.now c.args.edges.now c.args.next) ((filing c.look-x5.new.nodes c.look-x5.new.edges c.look-x5.result.next)) = keeps-more _ 5 _ _ _ _ ((let h : Kept 5 (filing c.args.nodes.now c.args.edges.now c.args.next) ((filing c.look-x4.new.nodes c.look-x4.new.edges c.look-x4.result.next)) = keeps-more _ 4 _ _ _ _ ((let h : Kept 4 (filing c.args.nodes.now c.args.edges.now c.args.next) ((filing c.look-x3.new.nodes c.look-x3.new.edges c.look-x3.result.next)) = keeps-more _ 3 _ _ _ _ ((let h : Kept 3 (filing c.args.nodes.now c.args.edges.now c.args.next) ((filing c.look-x2.new.nodes c.look-x2.new.edges c.look-x2.result.next)) = keeps-more _ 2 _ _ _ _ ((let h : Kept 2 (filing c.args.nodes.now c.args.edges.now c.args.next) ((filing c.look-x1.new.nodes c.look-x1.new.edges c.look-x1.result.next)) = keeps-more _ 1 _ _ _ _ (keeps-one _ _ _ _ c.look-x0.ensures.filing) c.look-x1.ensures.filing in h)) c.look-x2.ensures.filing in h)) c.look-x3.ensures.filing in h)) c.look-x4.ensures.filing in h)) c.look-x5.ensures.filing in h)).edges-long
 
 pub returns : goal.returns
 returns c = record {

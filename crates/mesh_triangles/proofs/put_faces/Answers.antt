@@ -9,15 +9,15 @@ use native.Mathlib.Omega.{arith}
 
 pub put_face-n1-requires : goal.put_face-n1-requires
 put_face-n1-requires c = let h = c.requires.0.1 in
-    ((c.requires.0.0, (h.a, (h.b, (h.d, h.c)))), omega (arith, (let h : c.put_face-n0.result ≤ c.args.at + 1 = few-more _ _ _ 0 _ _ c.put_face-n0.ensures.placing (omega arith) in h), c.requires.1))
+    ((c.requires.0.0, (h.a, (h.b, (h.d, h.c)))), omega (arith, (few-more _ _ _ 0 _ _ c.put_face-n0.ensures.placing (omega arith)), c.requires.1))
 
 pub put_face-n2-requires : goal.put_face-n2-requires
 put_face-n2-requires c = let h = c.requires.0.1 in
-    ((c.requires.0.0, (h.a, (h.c, (h.d, h.b)))), omega (arith, (let h : c.put_face-n1.result ≤ c.args.at + 2 = few-more _ _ _ 1 _ _ c.put_face-n1.ensures.placing ((let h : c.put_face-n0.result ≤ c.args.at + 1 = few-more _ _ _ 0 _ _ c.put_face-n0.ensures.placing (omega arith) in h)) in h), c.requires.1))
+    ((c.requires.0.0, (h.a, (h.c, (h.d, h.b)))), omega (arith, (let h : c.put_face-n1.result ≤ c.args.at + 2 = few-more _ _ _ 1 _ _ c.put_face-n1.ensures.placing (few-more _ _ _ 0 _ _ c.put_face-n0.ensures.placing (omega arith)) in h), c.requires.1))
 
 pub put_face-requires : goal.put_face-requires
 put_face-requires c = let h = c.requires.0.1 in
-    ((c.requires.0.0, (h.b, (h.c, (h.d, h.a)))), omega (arith, (let h : c.put_face-n2.result ≤ c.args.at + 3 = few-more _ _ _ 2 _ _ c.put_face-n2.ensures.placing ((let h : c.put_face-n1.result ≤ c.args.at + 2 = few-more _ _ _ 1 _ _ c.put_face-n1.ensures.placing ((let h : c.put_face-n0.result ≤ c.args.at + 1 = few-more _ _ _ 0 _ _ c.put_face-n0.ensures.placing (omega arith) in h)) in h)) in h), c.requires.1))
+    ((c.requires.0.0, (h.b, (h.c, (h.d, h.a)))), omega (arith, (let h : c.put_face-n2.result ≤ c.args.at + 3 = few-more _ _ _ 2 _ _ c.put_face-n2.ensures.placing ((let h : c.put_face-n1.result ≤ c.args.at + 2 = few-more _ _ _ 1 _ _ c.put_face-n1.ensures.placing (few-more _ _ _ 0 _ _ c.put_face-n0.ensures.placing (omega arith)) in h)) in h), c.requires.1))
 
 pub returns : goal.returns
 unfolding placed_all

@@ -19,7 +19,7 @@ loop-i-init c = (search rules, refl, refl, sym (overwrite-none _ _), sym (overwr
 
 pub loop-i-preserved : goal.loop-i-preserved
 unfolding sharpened sharpened_slope element_density element_slope
-loop-i-preserved c =     let l = c.loop-i in (
+loop-i-preserved c = let l = c.loop-i in (
       search rules,
       search rules,
       search rules,

@@ -19,11 +19,11 @@ pub loop-i-init : goal.loop-i-init
 loop-i-init c = (search rules, refl, refl, sym (overwrite-none _ _), sym (overwrite-none _ _))
 
 pub project-p-requires : goal.project-p-requires
-project-p-requires c =     (c.at_steepness-at.ensures.1 ∙ ap below_of (sym c.at_steepness-at.ensures.0), c.at_steepness-at.ensures.2 ∙ ap whole_of (sym c.at_steepness-at.ensures.0))
+project-p-requires c = (c.at_steepness-at.ensures.1 ∙ ap below_of (sym c.at_steepness-at.ensures.0), c.at_steepness-at.ensures.2 ∙ ap whole_of (sym c.at_steepness-at.ensures.0))
 
 pub loop-i-preserved : goal.loop-i-preserved
 unfolding sharpened sharpened_slope element_density element_slope
-loop-i-preserved c =     let l = c.loop-i in
+loop-i-preserved c = let l = c.loop-i in
     let e = c.at_steepness-at.ensures.0 in
     let v = c.clamp.ensures ∙ ap clamp_of (unwritten _ _ _ _ l.invariant.3 nan) in (
       search rules,

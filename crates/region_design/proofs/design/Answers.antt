@@ -7,6 +7,8 @@ use Rattle.lists.proofs.Laws.{overwrite-none, overwrite-more, passes_on, neither
 use Rattle.lists.specs.Lists.{overwrite}
 use Rattle.mesh.specs.Mesh.{volume_of, centroid_of}
 use Rattle.region_design.proofs.design.Goals as goal
+use Rattle.region_design.proofs.design.Invariants.{middle_at}
+use Rattle.region_design.proofs.design.Invariants.{volume_at}
 use Rattle.region_design.specs.Design.{design_refusal}
 use borrow.Author.Rules.{rules}
 use borrow.Author.Tests.{ltb-false}
@@ -16,13 +18,6 @@ use mathlib.Core.List.{List, []}
 use mathlib.Core.Path.{◌≡◌, refl, ap, sym, ◌∙◌}
 use native.Mathlib.Nat.{le_antisymm}
 use native.Mathlib.Omega.{arith}
-
--- what is written at place k
-abbrev volume_at : List (List Float) → List (List ℕ) → ℕ → Float
-volume_at nodes tets k = volume_of nodes (get_or tets k [])
-
-abbrev middle_at : List (List Float) → List (List ℕ) → ℕ → List Float
-middle_at nodes tets k = stored (centroid_of nodes (get_or tets k []))
 
 positive : (r : ℕ) → 0 < r → r ≡ 0 → ⊥
 positive r h z = omega arith

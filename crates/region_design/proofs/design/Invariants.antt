@@ -17,7 +17,11 @@ use mathlib.Core.Path.{◌≡◌, refl, ap, sym, ◌∙◌}
 use native.Mathlib.Nat.{le_antisymm}
 use native.Mathlib.Omega.{arith}
 
-abbrev middle_at : List (List Float) → List (List ℕ) → ℕ → List Float
+-- what is written at place k
+abbrev pub volume_at : List (List Float) → List (List ℕ) → ℕ → Float
+volume_at nodes tets k = volume_of nodes (get_or tets k [])
+
+abbrev pub middle_at : List (List Float) → List (List ℕ) → ℕ → List Float
 middle_at nodes tets k = stored (centroid_of nodes (get_or tets k []))
 
 abbrev pub invariant-loop-i : goal.invariant-loop-i

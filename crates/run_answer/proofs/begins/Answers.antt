@@ -14,7 +14,7 @@ pub shape_of-slope : goal.shape_of-slope
 shape_of-slope c = c.ask.auto.spare
 
 pub returns : goal.returns
-returns c =     record {
+returns c = record {
       state = c.unrecorded.ensures.0 ∙ c.first_state-s.ensures ∙ ap (first_state c.args.state) c.compliance.ensures;
       reply = c.unrecorded.ensures.1;
       at = c.unrecorded.ensures.2;

@@ -9,7 +9,7 @@ use lib.Ieee.{Float}
 use mathlib.Core.Path.{ap, ◌∙◌}
 
 pub returns : goal.returns
-returns c =     let a = c.args in
+returns c = let a = c.args in
     c.see.ensures.0
     ∙ ap (λ (s : Sharpness). seen_density s a.starts.now a.near.now a.coef.now a.passive.now a.design.now)
     (c.seen_at-at.ensures ∙ ap (λ (b : Float). choose a.sharpen (At b) Off) c.sharpness.ensures)

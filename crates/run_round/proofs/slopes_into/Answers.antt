@@ -4,4 +4,4 @@ use Rattle.run_round.proofs.slopes_into.Goals as goal
 use borrow.Author.Rules.{rules}
 
 pub returns : goal.returns
-returns c =     slopes-are _ _ _ _ _ _ _ _ _ _ _ _ _ c.slopes.ensures c.work_slope.ensures c.volume_slopes.ensures
+returns c = slopes-are _ _ _ _ _ _ _ _ _ _ _ _ _ c.slopes.ensures c.work_slope.ensures c.volume_slopes.ensures

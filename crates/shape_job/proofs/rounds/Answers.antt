@@ -28,7 +28,7 @@ not-asked c = c.before.before.before.before
 
 -- ---- the needs
 pub loop-left-init : goal.loop-left-init
-loop-left-init c =     (refl, refl, refl, refl, record { free = refl; slope = refl; spare = refl; dc = refl; dv = refl }, refl)
+loop-left-init c = (refl, refl, refl, refl, record { free = refl; slope = refl; spare = refl; dc = refl; dv = refl }, refl)
 
 pub asks-requires : goal.asks-requires
 asks-requires c = tt
@@ -40,11 +40,11 @@ pub overflow_sub-left : goal.overflow_sub-left
 overflow_sub-left c = (in-loop (asked (at_turn c))).loop-test.taken
 
 pub loop-left-smaller : goal.loop-left-smaller
-loop-left-smaller c =     let h = (in-loop (asked (at_turn c))).loop-test.taken in
+loop-left-smaller c = let h = (in-loop (asked (at_turn c))).loop-test.taken in
     omega arith
 
 pub loop-left-preserved : goal.loop-left-preserved
-loop-left-preserved c =     let turn : tie.After-turn invariant-loop decreases-loop = at_turn c in
+loop-left-preserved c = let turn : tie.After-turn invariant-loop decreases-loop = at_turn c in
     let asks : tie.Then1 invariant-loop decreases-loop = asked turn in
     let inside : tie.In-loop invariant-loop decreases-loop = in-loop asks in
     let x = inside.before.loop in

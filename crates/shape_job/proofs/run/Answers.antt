@@ -74,7 +74,7 @@ shape_of-dv c = c.rounds.auto.dv
 
 pub returns : goal.returns
 unfolding job_of
-returns c =     let a = c.args in
+returns c = let a = c.args in
     let g : Asked = record { centroids = a.centroids.now; mirrors = a.mirrors.now; goal = a.goal; flag = false } in
     let room : List ℕ =
     open_lengths (record {

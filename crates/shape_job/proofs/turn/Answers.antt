@@ -41,7 +41,7 @@ pub shape_of-dv : goal.shape_of-dv
 shape_of-dv c = c.answer.auto.dv
 
 pub returns : goal.returns
-returns c =     let a = c.args in
+returns c = let a = c.args in
     let lent : Core =
     record {
       volumes = a.volumes.now;

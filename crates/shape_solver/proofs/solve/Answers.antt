@@ -13,14 +13,14 @@ pub loop-e-init : goal.loop-e-init
 loop-e-init c = (search rules, refl, sym (overwrite-none _ _))
 
 pub loop-e-preserved : goal.loop-e-preserved
-loop-e-preserved c =     (search rules, search rules, rw (c.loop-e.invariant.2, c.energy.ensures, c.place.ensures, c.place-in-loop-e.ensures) (overwrite-more _ _ _ (omega arith)))
+loop-e-preserved c = (search rules, search rules, rw (c.loop-e.invariant.2, c.energy.ensures, c.place.ensures, c.place-in-loop-e.ensures) (overwrite-more _ _ _ (omega arith)))
 
 pub shape_of-energies : goal.shape_of-energies
 shape_of-energies c = c.loop-e.invariant.1
 
 pub returns : goal.returns
 unfolding energies_of
-returns c =     let weights = c.args.weights.now in
+returns c = let weights = c.args.weights.now in
     let density = c.args.density.now in
     let energies = c.args.energies.now in
     let e : c.loop-e.e ≡ length energies = search rules in

@@ -4,4 +4,4 @@ use borrow.Author.Rules.{rules}
 use mathlib.Core.List.{[], ◌∷◌}
 
 pub returns : goal.returns
-returns c =     c.from_bits-x.ensures i ∷ c.from_bits-y.ensures i ∷ c.from_bits-z.ensures i ∷ c.from_bits-u.ensures i ∷ c.from_bits-v.ensures i ∷ c.from_bits-w.ensures i ∷ []
+returns c = λ i. c.from_bits-x.ensures i ∷ c.from_bits-y.ensures i ∷ c.from_bits-z.ensures i ∷ c.from_bits-u.ensures i ∷ c.from_bits-v.ensures i ∷ c.from_bits-w.ensures i ∷ []

@@ -19,7 +19,7 @@ returns-in-Refused c = no_read _ _ _ _ (not-read _ _ _ _ _ c.in-Refused.is c.rea
 
 pub returns-then-short : goal.returns-then-short
 unfolding job_of too_short
-returns-then-short c =     let a = c.args in
+returns-then-short c = let a = c.args in
     let job = c.in-Read.job in
     let w = was_read a.bytes.now _ _ _ job c.in-Read.is c.read-answer.ensures in
     let p = lent a.volume-bits.now a.centroid-bits.now a.weight-bits.now a.passive.now a.mirror-bits.now in
@@ -30,7 +30,7 @@ returns-then-short c =     let a = c.args in
 
 pub numbers-requires : goal.numbers-requires
 unfolding job_of too_short
-numbers-requires c =     let a = c.args in
+numbers-requires c = let a = c.args in
     let job = c.in-Read.job in
     let w = was_read a.bytes.now _ _ _ job c.in-Read.is c.read-answer.ensures in
     let p = lent a.volume-bits.now a.centroid-bits.now a.weight-bits.now a.passive.now a.mirror-bits.now in
@@ -43,7 +43,7 @@ numbers-requires c =     let a = c.args in
 
 pub points-requires : goal.points-requires
 unfolding job_of too_short
-points-requires c =     let a = c.args in
+points-requires c = let a = c.args in
     let job = c.in-Read.job in
     let w = was_read a.bytes.now _ _ _ job c.in-Read.is c.read-answer.ensures in
     let p = lent a.volume-bits.now a.centroid-bits.now a.weight-bits.now a.passive.now a.mirror-bits.now in
@@ -56,7 +56,7 @@ points-requires c =     let a = c.args in
 
 pub numbers-requires-in-Read : goal.numbers-requires-in-Read
 unfolding job_of too_short
-numbers-requires-in-Read c =     let a = c.args in
+numbers-requires-in-Read c = let a = c.args in
     let job = c.in-Read.job in
     let w = was_read a.bytes.now _ _ _ job c.in-Read.is c.read-answer.ensures in
     let p = lent a.volume-bits.now a.centroid-bits.now a.weight-bits.now a.passive.now a.mirror-bits.now in
@@ -69,7 +69,7 @@ numbers-requires-in-Read c =     let a = c.args in
 
 pub planes-requires : goal.planes-requires
 unfolding job_of too_short
-planes-requires c =     let a = c.args in
+planes-requires c = let a = c.args in
     let job = c.in-Read.job in
     let w = was_read a.bytes.now _ _ _ job c.in-Read.is c.read-answer.ensures in
     let p = lent a.volume-bits.now a.centroid-bits.now a.weight-bits.now a.passive.now a.mirror-bits.now in
@@ -82,7 +82,7 @@ planes-requires c =     let a = c.args in
 
 pub returns-in-Read : goal.returns-in-Read
 unfolding job_of too_short
-returns-in-Read c =     let a = c.args in
+returns-in-Read c = let a = c.args in
     let job = c.in-Read.job in
     let w = was_read a.bytes.now _ _ _ job c.in-Read.is c.read-answer.ensures in
     let p = lent a.volume-bits.now a.centroid-bits.now a.weight-bits.now a.passive.now a.mirror-bits.now in

@@ -10,26 +10,26 @@ use native.Mathlib.Omega.{arith}
 
 pub returns-then-short : goal.returns-then-short
 unfolding short
-returns-then-short c =     let a = c.args in
+returns-then-short c = let a = c.args in
     let told = sym c.check-answer.ensures ∙ c.in-Read.is in
     too_short a.bytes.now (lent a.volumes.now a.centroids.now a.weights.now a.passive.now a.mirrors.now) c.in-Read.job told c.if-short.true
 
 pub mirrors-requires : goal.mirrors-requires
 unfolding short
-mirrors-requires c =     let a = c.args in
+mirrors-requires c = let a = c.args in
     let job = c.in-Read.job in
     let told = sym c.check-answer.ensures ∙ c.in-Read.is in
     (omega (arith, sized a.bytes.now job told), (roomy (lent a.volumes.now a.centroids.now a.weights.now a.passive.now a.mirrors.now) job.elements job.mirrors c.if-short.false).4)
 
 pub overflow_mul-k : goal.overflow_mul-k
-overflow_mul-k c =     omega (arith, sized c.args.bytes.now c.in-Read.job (sym c.check-answer.ensures ∙ c.in-Read.is))
+overflow_mul-k c = omega (arith, sized c.args.bytes.now c.in-Read.job (sym c.check-answer.ensures ∙ c.in-Read.is))
 
 pub overflow_add-k : goal.overflow_add-k
-overflow_add-k c =     omega (arith, sized c.args.bytes.now c.in-Read.job (sym c.check-answer.ensures ∙ c.in-Read.is))
+overflow_add-k c = omega (arith, sized c.args.bytes.now c.in-Read.job (sym c.check-answer.ensures ∙ c.in-Read.is))
 
 pub elements-requires : goal.elements-requires
 unfolding short
-elements-requires c =     let a = c.args in
+elements-requires c = let a = c.args in
     let job = c.in-Read.job in
     let told = sym c.check-answer.ensures ∙ c.in-Read.is in
     let room = roomy (lent a.volumes.now a.centroids.now a.weights.now a.passive.now a.mirrors.now) job.elements job.mirrors c.if-short.false in
@@ -40,7 +40,7 @@ returns-in-Refused c = malformed _ _ _ (sym c.check-answer.ensures ∙ c.in-Refu
 
 pub returns-else-short : goal.returns-else-short
 unfolding short
-returns-else-short c =     let a = c.args in
+returns-else-short c = let a = c.args in
     let job = c.in-Read.job in
     let told = sym c.check-answer.ensures ∙ c.in-Read.is in
     let l = lent a.volumes.now a.centroids.now a.weights.now a.passive.now a.mirrors.now in

@@ -11,5 +11,5 @@ use native.Mathlib.Omega.{arith}
 
 pub returns : goal.returns
 unfolding modulus_of density_of
-returns c =     let n : c.if-n-gt-LEVELS.n ≡ min c.args.level 1000 = ⊎_elim (λ w. omega arith) (λ w. omega arith) c.if-n-gt-LEVELS.branch in
+returns c = let n : c.if-n-gt-LEVELS.n ≡ min c.args.level 1000 = ⊎_elim (λ w. omega arith) (λ w. omega arith) c.if-n-gt-LEVELS.branch in
     ap (λ (k : ℕ). mul binary64 c.args.e0 (add binary64 FLOOR (mul binary64 (cube (div binary64 (whole64 k) (whole64 1000))) (sub binary64 one64 FLOOR)))) n

@@ -20,7 +20,7 @@ returns-then-outside c = below_none c.args.x (ends c.args.x c.modulus_at.result 
 
 pub loop-high-init : goal.loop-high-init
 unfolding inside
-loop-high-init c = (omega arith, omega arith, (both _ _ ((let h : inside c.args.x ≡ true = ends c.args.x c.modulus_at.result c.modulus_at-2.result true c.modulus_at.ensures c.modulus_at-2.ensures c.if-outside.false-raw in h))).0, λ k a b. absurd (omega arith))
+loop-high-init c = (omega arith, omega arith, (both _ _ (ends c.args.x c.modulus_at.result c.modulus_at-2.result true c.modulus_at.ensures c.modulus_at-2.ensures c.if-outside.false-raw)).0, λ k a b. absurd (omega arith))
 
 pub overflow_sub-high : goal.overflow_sub-high
 overflow_sub-high c = omega arith
@@ -44,10 +44,10 @@ pub loop-high-smaller : goal.loop-high-smaller
 loop-high-smaller c = omega arith
 
 pub loop-high-preserved : goal.loop-high-preserved
-loop-high-preserved c =     (omega arith, omega arith, c.loop-high.invariant.2, above c.args.x (c.loop-high.low + (c.loop-high.high - c.loop-high.low) / 2) (sym (ap (λ (v : Float). le v c.args.x) c.modulus_at-in-loop-high.ensures) ∙ c.if-modulus_at-x.false))
+loop-high-preserved c = (omega arith, omega arith, c.loop-high.invariant.2, above c.args.x (c.loop-high.low + (c.loop-high.high - c.loop-high.low) / 2) (sym (ap (λ (v : Float). le v c.args.x) c.modulus_at-in-loop-high.ensures) ∙ c.if-modulus_at-x.false))
 
 pub overflow_cast-level : goal.overflow_cast-level
 overflow_cast-level c = omega arith
 
 pub returns : goal.returns
-returns c =     below-is c.args.x c.loop-high.low ((let h : inside c.args.x ≡ true = ends c.args.x c.modulus_at.result c.modulus_at-2.result true c.modulus_at.ensures c.modulus_at-2.ensures c.if-outside.false-raw in h)) (omega arith) c.loop-high.invariant.2 (λ k a b. c.loop-high.invariant.3 k (omega arith) b)
+returns c = below-is c.args.x c.loop-high.low (ends c.args.x c.modulus_at.result c.modulus_at-2.result true c.modulus_at.ensures c.modulus_at-2.ensures c.if-outside.false-raw) (omega arith) c.loop-high.invariant.2 (λ k a b. c.loop-high.invariant.3 k (omega arith) b)

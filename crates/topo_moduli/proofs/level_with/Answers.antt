@@ -16,12 +16,12 @@ pub modulus_at-requires : goal.modulus_at-requires
 modulus_at-requires c = (let h : c.in-At.level < 1001 = (greatest-below c.args.m c.in-At.level ((let h : level_below c.args.m ≡ At c.in-At.level = sym c.level_below-below.ensures ∙ c.in-At.is in h))).few in h)
 
 pub returns-then-modulus_at-m : goal.returns-then-modulus_at-m
-returns-then-modulus_at-m c =     with-is c.args.m c.in-At.level ((let h : c.in-At.level < 1001 = (greatest-below c.args.m c.in-At.level ((let h : level_below c.args.m ≡ At c.in-At.level = sym c.level_below-below.ensures ∙ c.in-At.is in h))).few in h))
+returns-then-modulus_at-m c = with-is c.args.m c.in-At.level ((let h : c.in-At.level < 1001 = (greatest-below c.args.m c.in-At.level ((let h : level_below c.args.m ≡ At c.in-At.level = sym c.level_below-below.ensures ∙ c.in-At.is in h))).few in h))
     (ap (λ (v : Float). eq v c.args.m) (sym c.modulus_at.ensures) ∙ c.if-modulus_at-m.true)
 
 pub returns-in-None : goal.returns-in-None
 returns-in-None c = with-outside c.args.m (sym c.level_below-below.ensures ∙ c.in-None.is)
 
 pub returns-else-modulus_at-m : goal.returns-else-modulus_at-m
-returns-else-modulus_at-m c =     with_none c.args.m c.in-At.level ((let h : level_below c.args.m ≡ At c.in-At.level = sym c.level_below-below.ensures ∙ c.in-At.is in h))
+returns-else-modulus_at-m c = with_none c.args.m c.in-At.level ((let h : level_below c.args.m ≡ At c.in-At.level = sym c.level_below-below.ensures ∙ c.in-At.is in h))
     (ap (λ (v : Float). eq v c.args.m) (sym c.modulus_at.ensures) ∙ c.if-modulus_at-m.false)

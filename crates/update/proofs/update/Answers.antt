@@ -16,7 +16,7 @@ rated most = choose (lt zero64 most) (mul binary64 ten_thousand most) one64
 
 pub fast-at-requires : goal.fast-at-requires
 unfolding first_rate
-fast-at-requires c =     ((c.gains.auto.gain ∙ c.requires.4, c.requires.1, c.requires.2, c.requires.3, c.requires.5), c.first_rate-first.ensures ∙ ap rated c.most.ensures)
+fast-at-requires c = ((c.gains.auto.gain ∙ c.requires.4, c.requires.1, c.requires.2, c.requires.3, c.requires.5), c.first_rate-first.ensures ∙ ap rated c.most.ensures)
 
 pub shape_of-design-then-passes-gt0 : goal.shape_of-design-then-passes-gt0
 shape_of-design-then-passes-gt0 c = c.fast-at.auto.design
@@ -28,14 +28,14 @@ pub shape_of-work-then-passes-gt0 : goal.shape_of-work-then-passes-gt0
 shape_of-work-then-passes-gt0 c = c.fast-at.auto.work
 
 pub returns-then-passes-gt0 : goal.returns-then-passes-gt0
-returns-then-passes-gt0 c =     let a = c.args in
+returns-then-passes-gt0 c = let a = c.args in
     let gl = c.gains.new.gain in
     let g : List Float → Given = λ gain. given a.x.now gain a.dv.now a.passive.now a.m a.target a.tolerance a.rule a.starts.now a.near.now a.coef.now a.volumes.now in
     gain-is g gl _ c.gains.ensures _ _ (done (g gl) c.fast-at.result _ _ (c.fast-at.ensures c.if-passes-gt0.true) refl c.ended-ending.ensures)
 
 pub every-at-requires : goal.every-at-requires
 unfolding first_rate
-every-at-requires c =     let q = c.fast-at.auto.1.1.1.1.1.1.1.1.1.1.1.1.1 in
+every-at-requires c = let q = c.fast-at.auto.1.1.1.1.1.1.1.1.1.1.1.1.1 in
     ((c.gains.auto.gain ∙ c.requires.4, c.requires.1, c.requires.2, q.0 ∙ c.requires.3, q.1.0 ∙ c.requires.5), c.first_rate-first.ensures ∙ ap rated c.most.ensures)
 
 pub shape_of-design : goal.shape_of-design
@@ -48,7 +48,7 @@ pub shape_of-work : goal.shape_of-work
 shape_of-work c = c.every-at.auto.work ∙ c.fast-at.auto.work
 
 pub returns : goal.returns
-returns c =     let a = c.args in
+returns c = let a = c.args in
     let gl = c.gains.new.gain in
     let g : List Float → Given = λ gain. given a.x.now gain a.dv.now a.passive.now a.m a.target a.tolerance a.rule a.starts.now a.near.now a.coef.now a.volumes.now in
     gain-is g gl _ c.gains.ensures _ _ (done (g gl) c.every-at.result _ _ c.every-at.ensures refl c.ended-ending-2.ensures)

@@ -11,9 +11,6 @@ use mathlib.Core.List.{List}
 use mathlib.Core.Path.{◌≡◌, refl, sym, ap, ◌∙◌}
 use native.Mathlib.Omega.{arith}
 
-abbrev rest : Given → Float → Float → List Float → Float → ℕ → Search
-rest g low high design kept passes = while_to (halves g) (halved g) (200 - passes) (record { low = low; high = high; design = design; kept = kept; passes = passes })
-
 pub loop-passes-init : goal.loop-passes-init
 loop-passes-init c = (c.requires.passes_bound.0, refl, refl, refl, c.requires.passes_bound.1)
 
@@ -24,17 +21,17 @@ pub shape_of-work-then-rate-low : goal.shape_of-work-then-rate-low
 shape_of-work-then-rate-low c = c.loop-passes.invariant.2
 
 pub returns-then-rate-low : goal.returns-then-rate-low
-returns-then-rate-low c =     let l = c.loop-passes in
+returns-then-rate-low c = let l = c.loop-passes in
     sym (halve-none _ _ _ _ _ _ c.if-rate-low.true) ∙ l.invariant.3
 
 pub design_again-same-requires : goal.design_again-same-requires
-design_again-same-requires c =     let p = c.requires.gain_len in
+design_again-same-requires c = let p = c.requires.gain_len in
     let l = c.loop-passes.invariant in
     (p.0, p.2, l.1 ∙ p.3)
 
 pub kept_again-kept-requires : goal.kept_again-kept-requires
 unfolding reckoned
-kept_again-kept-requires c =     let l = c.loop-passes in
+kept_again-kept-requires c = let l = c.loop-passes in
     let w = l.invariant.2 ∙ c.requires.gain_len.4 in
     let d = c.design_again-same.auto.out ∙ l.invariant.1 ∙ c.requires.gain_len.3 in
     (w ∙ sym c.requires.gain_len.2, (λ e. wf-at _ _ _ _ _ _ _ (sym w) (sym d) (c.requires.wf e), λ e. l.invariant.4 ∙ ap (kept_of _ _ _ _ _ _ _) (sym (c.design_again-same.ensures.1 e))))
@@ -47,7 +44,7 @@ loop-passes-smaller c = (pass-left (lt c.args.tolerance c.abs.result) c.loop-pas
 
 pub loop-passes-preserved : goal.loop-passes-preserved
 unfolding trial reckoned
-loop-passes-preserved c =     let l = c.loop-passes in
+loop-passes-preserved c = let l = c.loop-passes in
     let a = c.args in
     let t = c.loop-passes-test.true in
     let o = c.abs in
@@ -66,5 +63,5 @@ pub shape_of-work : goal.shape_of-work
 shape_of-work c = c.loop-passes.invariant.2
 
 pub returns : goal.returns
-returns c =     let l = c.loop-passes in
+returns c = let l = c.loop-passes in
     sym (halve-over _ _ _ _ _ _ _ c.abs.ensures c.loop-passes-test.false l.invariant.0) ∙ l.invariant.3

@@ -11,7 +11,7 @@ use mathlib.Core.List.{List}
 use mathlib.Core.Path.{◌≡◌, refl, sym, ap, ◌∙◌}
 use native.Mathlib.Omega.{arith}
 
-abbrev rest : Given → Float → Float → List Float → Float → ℕ → Search
+abbrev pub rest : Given → Float → Float → List Float → Float → ℕ → Search
 rest g low high design kept passes = while_to (halves g) (halved g) (200 - passes) (record { low = low; high = high; design = design; kept = kept; passes = passes })
 
 abbrev pub invariant-loop-passes : goal.invariant-loop-passes

@@ -9,19 +9,16 @@ use mathlib.Core.List.{List}
 use mathlib.Core.Path.{◌≡◌, refl, sym, ◌∙◌}
 use native.Mathlib.Omega.{arith}
 
-abbrev rest : Given → Float → Float → List Float → Float → ℕ → Search
-rest g low high design kept passes = while_to (raises g) (raised g) (200 - passes) (record { low = low; high = high; design = design; kept = kept; passes = passes })
-
 pub loop-kept-init : goal.loop-kept-init
 loop-kept-init c = (c.requires.passes_bound.0, refl, refl, refl, c.requires.passes_bound.1)
 
 pub design_at-requires : goal.design_at-requires
-design_at-requires c =     let p = c.requires.gain_len in
+design_at-requires c = let p = c.requires.gain_len in
     let l = c.loop-kept.invariant in
     (p.0, p.2, l.2 ∙ p.4)
 
 pub same-requires : goal.same-requires
-same-requires c =     let p = c.requires.gain_len in
+same-requires c = let p = c.requires.gain_len in
     let l = c.loop-kept.invariant in
     omega arith
 
@@ -33,16 +30,16 @@ shape_of-work-then-same c = omega arith
 
 pub returns-then-same : goal.returns-then-same
 unfolding trial
-returns-then-same c =     let l = c.loop-kept in
+returns-then-same c = let l = c.loop-kept in
     (sym (raise-same _ _ _ _ _ _ _ c.design_at.ensures (sym c.same.ensures ∙ c.if-same.true)) ∙ l.invariant.3, l.invariant.0, l.invariant.4)
 
 pub copy-requires : goal.copy-requires
-copy-requires c =     let p = c.requires.gain_len in
+copy-requires c = let p = c.requires.gain_len in
     let l = c.loop-kept.invariant in
     omega arith
 
 pub kept-kept-requires : goal.kept-kept-requires
-kept-kept-requires c =     let l = c.loop-kept.invariant in
+kept-kept-requires c = let l = c.loop-kept.invariant in
     let w = c.design_at.auto.out ∙ l.2 ∙ c.requires.gain_len.4 in
     let d = c.copy.auto.to ∙ l.1 ∙ c.requires.gain_len.3 in
     (w ∙ sym c.requires.gain_len.2, λ e. wf-at _ _ _ _ _ _ _ (sym w) (sym d) (c.requires.wf e))
@@ -55,7 +52,7 @@ loop-kept-smaller c = (pass-left (lt c.args.target c.loop-kept.auto) c.loop-kept
 
 pub loop-kept-preserved : goal.loop-kept-preserved
 unfolding trial reckoned
-loop-kept-preserved c =     let l = c.loop-kept in
+loop-kept-preserved c = let l = c.loop-kept in
     let a = c.args in
     let t = c.loop-kept-test.true in
     let g = given a.x.now a.gain.now a.dv.now a.passive.now a.m a.target a.tolerance a.rule a.starts.now a.near.now a.coef.now a.volumes.now in (
@@ -73,5 +70,5 @@ pub shape_of-work : goal.shape_of-work
 shape_of-work c = c.loop-kept.invariant.2
 
 pub returns : goal.returns
-returns c =     let l = c.loop-kept in
+returns c = let l = c.loop-kept in
     (sym (raise-over _ _ _ _ _ _ c.loop-kept-test.false l.invariant.0) ∙ l.invariant.3, l.invariant.0, l.invariant.4)

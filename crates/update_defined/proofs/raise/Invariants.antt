@@ -9,7 +9,7 @@ use mathlib.Core.List.{List}
 use mathlib.Core.Path.{◌≡◌, refl, sym, ◌∙◌}
 use native.Mathlib.Omega.{arith}
 
-abbrev rest : Given → Float → Float → List Float → Float → ℕ → Search
+abbrev pub rest : Given → Float → Float → List Float → Float → ℕ → Search
 rest g low high design kept passes = while_to (raises g) (raised g) (200 - passes) (record { low = low; high = high; design = design; kept = kept; passes = passes })
 
 abbrev pub invariant-loop-kept : goal.invariant-loop-kept

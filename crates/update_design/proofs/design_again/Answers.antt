@@ -21,7 +21,7 @@ pub loop-i-init : goal.loop-i-init
 loop-i-init c = (search rules, refl, sym (overwrite-none _ _), λ e k h. absurd (omega arith))
 
 pub loop-i-preserved : goal.loop-i-preserved
-loop-i-preserved c =     let l = c.loop-i in
+loop-i-preserved c = let l = c.loop-i in
     let v = c.next_value-v in
     let old = get_or l.out l.i nan in (
       search rules,
@@ -35,7 +35,7 @@ loop-i-preserved c =     let l = c.loop-i in
 
 pub returns : goal.returns
 unfolding design_at
-returns c =     let l = c.loop-i in (
+returns c = let l = c.loop-i in (
       filled _ _ _ _ l.invariant.2 _ (omega arith) (omega arith),
       λ e. filled _ _ _ _ l.invariant.2 _ (omega arith) refl ∙ tabulate-same _ _ _ (λ k h. l.invariant.3 e k (omega arith)) ∙ tabulate_get_d _ nan,
     )

@@ -16,12 +16,9 @@ use mathlib.Core.Bool.{Bool, ◌&&◌}
 use mathlib.Core.Path.{◌≡◌, refl, sym, ap, ◌∙◌}
 use native.Mathlib.Omega.{arith}
 
-abbrev rest : Given → Float → Float → Float → ℕ → Search
-rest g low high rate passes = while_to (halves g) (halved g) (200 - passes) (stand_at g low high rate passes)
-
 pub loop-off-init : goal.loop-off-init
 unfolding off_at
-loop-off-init c =     let a = c.args in
+loop-off-init c = let a = c.args in
     let q = c.requires.kept_value in
     (lit≤ tt, refl, refl, ap (lt a.tolerance) (c.abs.ensures ∙ ap (λ (v : Float). abs_of (sub binary64 v a.target)) q.0), q.0, q.1, q.2, q.3, refl)
 
@@ -32,11 +29,11 @@ pub shape_of-work-then-mid-low : goal.shape_of-work-then-mid-low
 shape_of-work-then-mid-low c = c.loop-off.invariant.2
 
 pub returns-then-mid-low : goal.returns-then-mid-low
-returns-then-mid-low c =     let l = c.loop-off in
+returns-then-mid-low c = let l = c.loop-off in
     (sym (search-none ((let a = c.args in given a.x.now a.gain.now a.dv.now a.passive.now a.m a.target a.tolerance (Sharpened a.beta) a.starts.now a.near.now a.coef.now a.volumes.now)) l.low l.high l.rate l.passes c.if-mid-low.true) ∙ l.invariant.8, l.invariant.4)
 
 pub volume_at-at-requires : goal.volume_at-at-requires
-volume_at-at-requires c =     let l = c.loop-off.invariant in
+volume_at-at-requires c = let l = c.loop-off.invariant in
     ((c.requires.gain_len.0, c.requires.gain_len.1, l.1 ∙ c.requires.gain_len.2, l.2 ∙ c.requires.gain_len.3), (c.requires.wf, (l.5, l.6, l.7)))
 
 pub overflow_add-passes : goal.overflow_add-passes
@@ -47,7 +44,7 @@ loop-off-smaller c = (pass-left c.loop-off.off c.loop-off.passes c.loop-off-test
 
 pub loop-off-preserved : goal.loop-off-preserved
 unfolding off_at more_at
-loop-off-preserved c =     let l = c.loop-off in
+loop-off-preserved c = let l = c.loop-off in
     let a = c.args in
     let t = c.loop-off-test.true in
     (
@@ -69,5 +66,5 @@ pub shape_of-work : goal.shape_of-work
 shape_of-work c = c.loop-off.invariant.2
 
 pub returns : goal.returns
-returns c =     let l = c.loop-off in
+returns c = let l = c.loop-off in
     (sym (search-over ((let a = c.args in given a.x.now a.gain.now a.dv.now a.passive.now a.m a.target a.tolerance (Sharpened a.beta) a.starts.now a.near.now a.coef.now a.volumes.now)) l.low l.high l.rate l.passes (sym (ap (λ (u : Bool). u && ltb l.passes 200) l.invariant.3) ∙ c.loop-off-test.false) l.invariant.0) ∙ l.invariant.8, l.invariant.4)

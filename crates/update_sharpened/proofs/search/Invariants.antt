@@ -16,7 +16,7 @@ use mathlib.Core.Bool.{Bool, ◌&&◌}
 use mathlib.Core.Path.{◌≡◌, refl, sym, ap, ◌∙◌}
 use native.Mathlib.Omega.{arith}
 
-abbrev rest : Given → Float → Float → Float → ℕ → Search
+abbrev pub rest : Given → Float → Float → Float → ℕ → Search
 rest g low high rate passes = while_to (halves g) (halved g) (200 - passes) (stand_at g low high rate passes)
 
 abbrev pub invariant-loop-off : goal.invariant-loop-off

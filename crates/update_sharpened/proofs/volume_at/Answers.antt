@@ -13,7 +13,7 @@ use lib.Ieee.{binary64, fits, eq, ne}
 use mathlib.Core.Path.{sym, ap, ◌∙◌}
 
 pub returns-then-rate-ahead : goal.returns-then-rate-ahead
-returns-then-rate-ahead c =     let a = c.args in
+returns-then-rate-ahead c = let a = c.args in
     let g : Given = given a.x.now a.gain.now a.dv.now a.passive.now a.m a.target a.tolerance (Sharpened a.beta) a.starts.now a.near.now a.coef.now a.volumes.now in
     let q = c.requires.one_value in
     let t = both (eq a.rate a.ahead) (ne a.rate zero64) c.if-rate-ahead.true in
@@ -22,7 +22,7 @@ returns-then-rate-ahead c =     let a = c.args in
 
 pub returns-then-p-q : goal.returns-then-p-q
 unfolding trial
-returns-then-p-q c =     let a = c.args in
+returns-then-p-q c = let a = c.args in
     let g : Given = given a.x.now a.gain.now a.dv.now a.passive.now a.m a.target a.tolerance (Sharpened a.beta) a.starts.now a.near.now a.coef.now a.volumes.now in
     let q = c.requires.one_value in
     let t = both c.design_again-p.result c.design_again-q.result c.if-p-q.true in
@@ -30,13 +30,13 @@ returns-then-p-q c =     let a = c.args in
     (one ∙ ap (reckoned g) c.design_again-p.ensures.0, one, q.1 ∙ ap (reckoned g) (sym (c.design_again-q.ensures.1 t.1)), c.design_again-q.ensures.0)
 
 pub kept-v-requires : goal.kept-v-requires
-kept-v-requires c =     let d = c.design_again-p.auto.out ∙ c.requires.gain_len.2 in
+kept-v-requires c = let d = c.design_again-p.auto.out ∙ c.requires.gain_len.2 in
     let w = c.design_again-q.auto.out ∙ c.requires.gain_len.3 in
     (wf-at _ _ _ _ _ _ _ (sym c.requires.gain_len.1) (sym d) c.requires.wf, w ∙ sym d)
 
 pub returns : goal.returns
 unfolding trial reckoned kept_of
-returns c =     let a = c.args in
+returns c = let a = c.args in
     let g : Given = given a.x.now a.gain.now a.dv.now a.passive.now a.m a.target a.tolerance (Sharpened a.beta) a.starts.now a.near.now a.coef.now a.volumes.now in
     let d = c.design_again-p.ensures.0 in
     (c.kept-v.ensures.0 ∙ ap (reckoned g) d, c.kept-v.ensures.0, c.kept-v.ensures.1, c.design_again-q.ensures.0)

@@ -15,14 +15,11 @@ use mathlib.Core.List.{[]}
 use mathlib.Core.Path.{◌≡◌, refl, sym, ap, ◌∙◌}
 use native.Mathlib.Omega.{arith}
 
-abbrev rest : Given → Float → Float → Float → ℕ → Search
-rest g low high rate passes = while_to (halves g) (halved g) (200 - passes) (stand_at g low high rate passes)
-
 pub loop-off-init : goal.loop-off-init
 loop-off-init c = (lit≤ tt, sym c.requires.first_value, refl)
 
 pub returns-then-mid-low : goal.returns-then-mid-low
-returns-then-mid-low c =     let l = c.loop-off in
+returns-then-mid-low c = let l = c.loop-off in
     sym (search-none ((let a = c.args in given a.x.now a.gain.now a.dv.now a.passive.now a.m a.target a.tolerance (Straight a.solid) [] [] [] [])) l.low l.high l.rate l.passes c.if-mid-low.true) ∙ l.invariant.2
 
 pub judge-v-requires : goal.judge-v-requires
@@ -35,7 +32,7 @@ pub loop-off-smaller : goal.loop-off-smaller
 loop-off-smaller c = (pass-left c.loop-off.off c.loop-off.passes c.loop-off-test.true).1
 
 pub loop-off-preserved : goal.loop-off-preserved
-loop-off-preserved c =     let l = c.loop-off in
+loop-off-preserved c = let l = c.loop-off in
     let t = c.loop-off-test.true in
     (
       (pass-left l.off l.passes t).0,
@@ -44,5 +41,5 @@ loop-off-preserved c =     let l = c.loop-off in
     )
 
 pub returns : goal.returns
-returns c =     let l = c.loop-off in
+returns c = let l = c.loop-off in
     sym (search-over ((let a = c.args in given a.x.now a.gain.now a.dv.now a.passive.now a.m a.target a.tolerance (Straight a.solid) [] [] [] [])) l.low l.high l.rate l.passes (sym (ap (λ (b : Bool). b && ltb l.passes 200) l.invariant.1) ∙ c.loop-off-test.false) l.invariant.0) ∙ l.invariant.2

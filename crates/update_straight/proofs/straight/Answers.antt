@@ -13,19 +13,19 @@ use mathlib.Core.Path.{ap}
 use native.Mathlib.Omega.{arith}
 
 pub search-t-requires : goal.search-t-requires
-search-t-requires c =     let p = c.requires.gain_len in
+search-t-requires c = let p = c.requires.gain_len in
     let k = c.known-sure in
     let first = c.args.first in
     let t = both (le k.result.above first) (lt first infinity) c.if-above-first.true in
     ((p.0, p.1, p.2), (k.ensures, (k.ensures.high first t.0 t.1).1))
 
 pub design_at-requires : goal.design_at-requires
-design_at-requires c =     let p = c.requires.gain_len in
+design_at-requires c = let p = c.requires.gain_len in
     (p.0, p.2, p.3)
 
 pub returns-then-above-first : goal.returns-then-above-first
 unfolding trial reckoned kept_of
-returns-then-above-first c =     let a = c.args in
+returns-then-above-first c = let a = c.args in
     let g = given a.x.now a.gain.now a.dv.now a.passive.now a.m a.target a.tolerance (Straight a.solid) [] [] [] [] in
     let k = c.known-sure in
     let t = both (le k.result.above a.first) (lt a.first infinity) c.if-above-first.true in

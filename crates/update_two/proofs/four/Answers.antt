@@ -33,7 +33,7 @@ pub grown-b-requires-4 : goal.grown-b-requires-4
 grown-b-requires-4 c = (omega (arith, c.requires.wf.2), omega (arith, c.requires.wf.3))
 
 pub returns : goal.returns
-returns c =     let a = c.args in
+returns c = let a = c.args in
     let u1 = part-more a.at.beta a.starts.now a.near.now a.coef.now a.volumes.now a.passive.now a.x.now a.e (a.e + 1) _ _ _ _ _ _ (omega arith) c.requires.below_value.0 c.requires.below_value.1 c.place-p.ensures.0 c.tanh_each-t.ensures.0 c.requires.a_value.0 c.grown-a.ensures in
     let u2 = part-more a.at.beta a.starts.now a.near.now a.coef.now a.volumes.now a.passive.now a.x.now (a.e + 1) (a.e + 2) _ _ _ _ _ _ (omega arith) c.requires.below_value.0 c.requires.below_value.1 c.place-q.ensures.0 c.tanh_each-t.ensures.2 u1 c.grown-a-2.ensures in
     let u3 = part-more a.at.beta a.starts.now a.near.now a.coef.now a.volumes.now a.passive.now a.x.now (a.e + 2) (a.e + 3) _ _ _ _ _ _ (omega arith) c.requires.below_value.0 c.requires.below_value.1 c.place-r.ensures.0 c.tanh_each-t.ensures.4 u2 c.grown-a-3.ensures in

@@ -15,7 +15,7 @@ pub loop-e-init : goal.loop-e-init
 loop-e-init c = (search rules, sym (sum_to-none _), sym (sum_to-none _))
 
 pub four-sum-requires : goal.four-sum-requires
-four-sum-requires c =     let a = c.args in
+four-sum-requires c = let a = c.args in
     let l = c.loop-e in (
       (c.at_steepness-at.ensures.1 ∙ ap below_of (sym c.at_steepness-at.ensures.0), c.at_steepness-at.ensures.2 ∙ ap whole_of (sym c.at_steepness-at.ensures.0)),
       (
@@ -28,7 +28,7 @@ four-sum-requires c =     let a = c.args in
     )
 
 pub loop-e-preserved : goal.loop-e-preserved
-loop-e-preserved c =     let a = c.args in
+loop-e-preserved c = let a = c.args in
     let e = c.at_steepness-at.ensures.0 in
     let l = c.loop-e in (
       omega arith,
@@ -40,7 +40,7 @@ pub loop-e-2-init : goal.loop-e-2-init
 loop-e-2-init c = c.loop-e.invariant
 
 pub one-sum-requires : goal.one-sum-requires
-one-sum-requires c =     let a = c.args in
+one-sum-requires c = let a = c.args in
     let l = c.loop-e-2 in (
       (c.at_steepness-at.ensures.1 ∙ ap below_of (sym c.at_steepness-at.ensures.0), c.at_steepness-at.ensures.2 ∙ ap whole_of (sym c.at_steepness-at.ensures.0)),
       (
@@ -53,7 +53,7 @@ one-sum-requires c =     let a = c.args in
     )
 
 pub loop-e-2-preserved : goal.loop-e-2-preserved
-loop-e-2-preserved c =     let a = c.args in
+loop-e-2-preserved c = let a = c.args in
     let e = c.at_steepness-at.ensures.0 in
     let l = c.loop-e-2 in (
       omega arith,
@@ -62,7 +62,7 @@ loop-e-2-preserved c =     let a = c.args in
     )
 
 pub returns : goal.returns
-returns c =     let a = c.args in
+returns c = let a = c.args in
     let l = c.loop-e-2 in
     let n = le_antisymm l.invariant.0 (omega arith) ∙ c.lesser-n.ensures in (
       l.invariant.1 ∙ ap (sum_to _) n ∙ parts_are a.beta a.starts.now a.near.now a.coef.now a.volumes.now a.passive.now a.x.now,

@@ -14,7 +14,7 @@ pub overflow_cast-to : goal.overflow_cast-to
 overflow_cast-to c = omega (arith, c.type_inv.starts (c.args.e + 1))
 
 pub row-s-requires : goal.row-s-requires
-row-s-requires c =     (wf-row c.args.starts.now c.args.near.now c.args.coef.now c.args.n _ c.requires.0 c.args.e c.requires.2, c.requires.1)
+row-s-requires c = (wf-row c.args.starts.now c.args.near.now c.args.coef.now c.args.n _ c.requires.0 c.args.e c.requires.2, c.requires.1)
 
 pub returns : goal.returns
-returns c =     (c.bent.ensures ∙ ap (bent _) c.row-s.ensures.0, c.bent-2.ensures ∙ ap (bent _) c.row-s.ensures.1)
+returns c = (c.bent.ensures ∙ ap (bent _) c.row-s.ensures.0, c.bent-2.ensures ∙ ap (bent _) c.row-s.ensures.1)

@@ -22,6 +22,6 @@ pub kept-volume-requires : goal.kept-volume-requires
 kept-volume-requires c = (length-take-le _ _ (one-fits _ _ _ _ c.refusal-refused.ensures c.if-refused-ne0.false), λ e. absurd (let z : ◌≡◌ {A = ℕ} 0 1 = cc in omega arith))
 
 pub returns : goal.returns
-returns c =     let a = c.args in
+returns c = let a = c.args in
     let z = c.if-refused-ne0.false in
     record { refused_value = sym z ∙ c.refusal-refused.ensures; volume_value = rw c.rule_of-rule.ensures at c.kept-volume.ensures ∙ unless-accepted 0 _ _ refl; worked_by = worked-front 0 (length a.passive.now) a.density.now c.kept-volume.new.density refl (one-fits _ _ _ _ c.refusal-refused.ensures c.if-refused-ne0.false) c.kept-volume.auto.density }

@@ -5,8 +5,8 @@ use borrow.Author.Rules.{rules}
 use mathlib.Core.Path.{sym, ap, ◌∙◌}
 
 pub project-p-requires : goal.project-p-requires
-project-p-requires c =     (c.at_steepness.ensures.1 ∙ ap below_of (sym c.at_steepness.ensures.0), c.at_steepness.ensures.2 ∙ ap whole_of (sym c.at_steepness.ensures.0))
+project-p-requires c = (c.at_steepness.ensures.1 ∙ ap below_of (sym c.at_steepness.ensures.0), c.at_steepness.ensures.2 ∙ ap whole_of (sym c.at_steepness.ensures.0))
 
 pub returns : goal.returns
-returns c =     let e = c.at_steepness.ensures.0 in
+returns c = let e = c.at_steepness.ensures.0 in
     (rw e at c.project-p.ensures.0, rw e at c.project-p.ensures.1)

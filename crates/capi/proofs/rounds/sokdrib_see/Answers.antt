@@ -25,6 +25,6 @@ pub see-requires : goal.see-requires
 see-requires c = (length-take-le _ _ (two-fit _ _ _ _ _ c.refusal-refused.ensures c.if-refused-ne0.false).0, length-take-le _ _ (two-fit _ _ _ _ _ c.refusal-refused.ensures c.if-refused-ne0.false).1)
 
 pub returns : goal.returns
-returns c =     let a = c.args in
+returns c = let a = c.args in
     let z = c.if-refused-ne0.false in
     record { value = sym z ∙ c.refusal-refused.ensures; density_after = written 0 (length a.passive.now) _ c.see.new.density a.density.now refl (two-fit _ _ _ _ _ c.refusal-refused.ensures c.if-refused-ne0.false).0 c.see.auto.density (rw c.sharpness-s.ensures at c.see.ensures.0); slope_after = written 0 (length a.passive.now) _ c.see.new.slope a.slope.now refl (two-fit _ _ _ _ _ c.refusal-refused.ensures c.if-refused-ne0.false).1 c.see.auto.slope (rw c.sharpness-s.ensures at c.see.ensures.1) }

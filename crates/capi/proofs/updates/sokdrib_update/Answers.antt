@@ -34,13 +34,13 @@ pub slice_bounds-update-end-6 : goal.slice_bounds-update-end-6
 slice_bounds-update-end-6 c = sym (length-take-le _ _ (three-fit _ _ _ _ _ _ c.refusal-refused.ensures c.if-refused-ne0.false).2)
 
 pub update-u-requires : goal.update-u-requires
-update-u-requires c =     let all = neither _ _ (accepted _ _ _ c.refusal-refused.ensures c.if-refused-ne0.false).0 in
+update-u-requires c = let all = neither _ _ (accepted _ _ _ c.refusal-refused.ensures c.if-refused-ne0.false).0 in
     let three = neither _ _ all.0 in
     let two = neither _ _ three.0 in
     (same_count _ _ two.0, same_count _ _ two.1, same_count _ _ three.1, length-take-le _ _ (three-fit _ _ _ _ _ _ c.refusal-refused.ensures c.if-refused-ne0.false).0, length-take-le _ _ (three-fit _ _ _ _ _ _ c.refusal-refused.ensures c.if-refused-ne0.false).1, length-take-le _ _ (three-fit _ _ _ _ _ _ c.refusal-refused.ensures c.if-refused-ne0.false).2)
 
 pub returns : goal.returns
-returns c =     let a = c.args in
+returns c = let a = c.args in
     let z = c.if-refused-ne0.false in
     let zero-told = told-zero _ _ c.told.ensures in
     let is =

@@ -17,12 +17,12 @@ all_rows-requires c = let a = c.args in
             c.lower-lo.ensures c.upper-hi.ensures c.limit_of-limit.ensures c.requires.few c.file_all-buckets.ensures,
         c.requires.three,
         c.unit_planes-held.ensures,
-      ); clean = ((
+      ); clean = (
         clean (length a.centroids.now) c.words.new.l c.floats.new.l c.longs.new.l a.stamp.now a.weight.now c.requires.few c.requires.stamps c.requires.weights (omega (arith, c.requires.maps, c.longs.auto.l)) c.words.ensures c.floats.ensures,
         c.requires.volumed,
         omega (arith, c.requires.founds, c.file_all-buckets.auto.place),
         c.requires.begun,
-      ), ) }
+      ) }
 
 pub shape_of-cell : goal.shape_of-cell
 shape_of-cell c = c.file_all-buckets.auto.cell

@@ -8,7 +8,7 @@ use mathlib.Core.Path.{ap, ◌∙◌}
 
 pub returns : goal.returns
 unfolding image
-returns c =     let args = c.args in
+returns c = let args = c.args in
     let n = args.self.normal in
     c.sub-2.ensures
     ∙ ap (less args.p) (c.scale.ensures

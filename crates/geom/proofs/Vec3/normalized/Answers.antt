@@ -7,5 +7,5 @@ use mathlib.Core.Path.{ap}
 
 pub returns : goal.returns
 unfolding normalized
-returns c =     let v = c.args.self in
+returns c = let v = c.args.self in
     ap (λ (l : Float). vec (div binary64 v.x l) (div binary64 v.y l) (div binary64 v.z l)) c.len-l.ensures

@@ -9,11 +9,11 @@ use mathlib.Core.Path.{◌≡◌, ap, ◌∙◌}
 
 pub returns-then-x1-x0 : goal.returns-then-x1-x0
 returns-then-x1-x0 c = let a = c.args in
-    reach-none-x a.t a.size a.depth a.centroids.now a.cells.now a.order.now a.first.now a.m c.requires.0 c.below-x0.result c.above-x1.result c.below-y0.result c.above-y1.result c.below-z0.result c.above-z1.result ((let h : c.below-x0.result ≡ cell_number (low_of c.args.t).x c.args.size - 1 = c.below-x0.ensures ∙ ap (λ (v : Vec3). cell_number v.x c.args.size - 1) c.low-lo.ensures in h)) ((let h : c.above-x1.result ≡ min (cell_number (high_of c.args.t).x c.args.size + 1) (2 ^ 64 - 1) = c.above-x1.ensures ∙ ap (λ (v : Vec3). min (cell_number v.x c.args.size + 1) (2 ^ 64 - 1)) c.high-hi.ensures in h)) ((let h : c.below-y0.result ≡ cell_number (low_of c.args.t).y c.args.size - 1 = c.below-y0.ensures ∙ ap (λ (v : Vec3). cell_number v.y c.args.size - 1) c.low-lo.ensures in h)) ((let h : c.above-y1.result ≡ min (cell_number (high_of c.args.t).y c.args.size + 1) (2 ^ 64 - 1) = c.above-y1.ensures ∙ ap (λ (v : Vec3). min (cell_number v.y c.args.size + 1) (2 ^ 64 - 1)) c.high-hi.ensures in h)) ((let h : c.below-z0.result ≡ cell_number (low_of c.args.t).z c.args.size - 1 = c.below-z0.ensures ∙ ap (λ (v : Vec3). cell_number v.z c.args.size - 1) c.low-lo.ensures in h)) ((let h : c.above-z1.result ≡ min (cell_number (high_of c.args.t).z c.args.size + 1) (2 ^ 64 - 1) = c.above-z1.ensures ∙ ap (λ (v : Vec3). min (cell_number v.z c.args.size + 1) (2 ^ 64 - 1)) c.high-hi.ensures in h)) a.marks.now c.requires.1 c.if-x1-x0.true
+    reach-none-x a.t a.size a.depth a.centroids.now a.cells.now a.order.now a.first.now a.m c.requires.0 c.below-x0.result c.above-x1.result c.below-y0.result c.above-y1.result c.below-z0.result c.above-z1.result (c.below-x0.ensures ∙ ap (λ (v : Vec3). cell_number v.x c.args.size - 1) c.low-lo.ensures) (c.above-x1.ensures ∙ ap (λ (v : Vec3). min (cell_number v.x c.args.size + 1) (2 ^ 64 - 1)) c.high-hi.ensures) (c.below-y0.ensures ∙ ap (λ (v : Vec3). cell_number v.y c.args.size - 1) c.low-lo.ensures) (c.above-y1.ensures ∙ ap (λ (v : Vec3). min (cell_number v.y c.args.size + 1) (2 ^ 64 - 1)) c.high-hi.ensures) (c.below-z0.ensures ∙ ap (λ (v : Vec3). cell_number v.z c.args.size - 1) c.low-lo.ensures) (c.above-z1.ensures ∙ ap (λ (v : Vec3). min (cell_number v.z c.args.size + 1) (2 ^ 64 - 1)) c.high-hi.ensures) a.marks.now c.requires.1 c.if-x1-x0.true
 
 pub returns-then-y1-y0 : goal.returns-then-y1-y0
 returns-then-y1-y0 c = let a = c.args in
-    reach-none-y a.t a.size a.depth a.centroids.now a.cells.now a.order.now a.first.now a.m c.requires.0 c.below-x0.result c.above-x1.result c.below-y0.result c.above-y1.result c.below-z0.result c.above-z1.result ((let h : c.below-x0.result ≡ cell_number (low_of c.args.t).x c.args.size - 1 = c.below-x0.ensures ∙ ap (λ (v : Vec3). cell_number v.x c.args.size - 1) c.low-lo.ensures in h)) ((let h : c.above-x1.result ≡ min (cell_number (high_of c.args.t).x c.args.size + 1) (2 ^ 64 - 1) = c.above-x1.ensures ∙ ap (λ (v : Vec3). min (cell_number v.x c.args.size + 1) (2 ^ 64 - 1)) c.high-hi.ensures in h)) ((let h : c.below-y0.result ≡ cell_number (low_of c.args.t).y c.args.size - 1 = c.below-y0.ensures ∙ ap (λ (v : Vec3). cell_number v.y c.args.size - 1) c.low-lo.ensures in h)) ((let h : c.above-y1.result ≡ min (cell_number (high_of c.args.t).y c.args.size + 1) (2 ^ 64 - 1) = c.above-y1.ensures ∙ ap (λ (v : Vec3). min (cell_number v.y c.args.size + 1) (2 ^ 64 - 1)) c.high-hi.ensures in h)) ((let h : c.below-z0.result ≡ cell_number (low_of c.args.t).z c.args.size - 1 = c.below-z0.ensures ∙ ap (λ (v : Vec3). cell_number v.z c.args.size - 1) c.low-lo.ensures in h)) ((let h : c.above-z1.result ≡ min (cell_number (high_of c.args.t).z c.args.size + 1) (2 ^ 64 - 1) = c.above-z1.ensures ∙ ap (λ (v : Vec3). min (cell_number v.z c.args.size + 1) (2 ^ 64 - 1)) c.high-hi.ensures in h)) a.marks.now c.requires.1 c.if-y1-y0.true
+    reach-none-y a.t a.size a.depth a.centroids.now a.cells.now a.order.now a.first.now a.m c.requires.0 c.below-x0.result c.above-x1.result c.below-y0.result c.above-y1.result c.below-z0.result c.above-z1.result (c.below-x0.ensures ∙ ap (λ (v : Vec3). cell_number v.x c.args.size - 1) c.low-lo.ensures) (c.above-x1.ensures ∙ ap (λ (v : Vec3). min (cell_number v.x c.args.size + 1) (2 ^ 64 - 1)) c.high-hi.ensures) (c.below-y0.ensures ∙ ap (λ (v : Vec3). cell_number v.y c.args.size - 1) c.low-lo.ensures) (c.above-y1.ensures ∙ ap (λ (v : Vec3). min (cell_number v.y c.args.size + 1) (2 ^ 64 - 1)) c.high-hi.ensures) (c.below-z0.ensures ∙ ap (λ (v : Vec3). cell_number v.z c.args.size - 1) c.low-lo.ensures) (c.above-z1.ensures ∙ ap (λ (v : Vec3). min (cell_number v.z c.args.size + 1) (2 ^ 64 - 1)) c.high-hi.ensures) a.marks.now c.requires.1 c.if-y1-y0.true
 
 pub block-requires : goal.block-requires
 block-requires c = let n = cells-many c.args.t c.args.size c.args.depth c.args.centroids.now c.args.cells.now c.args.order.now c.args.first.now c.args.m c.requires.0 in
@@ -21,4 +21,4 @@ block-requires c = let n = cells-many c.args.t c.args.size c.args.depth c.args.c
 
 pub returns : goal.returns
 returns c = let a = c.args in
-    reach-done a.t a.size a.depth a.centroids.now a.cells.now a.order.now a.first.now a.m c.requires.0 c.below-x0.result c.above-x1.result c.below-y0.result c.above-y1.result c.below-z0.result c.above-z1.result ((let h : c.below-x0.result ≡ cell_number (low_of c.args.t).x c.args.size - 1 = c.below-x0.ensures ∙ ap (λ (v : Vec3). cell_number v.x c.args.size - 1) c.low-lo.ensures in h)) ((let h : c.above-x1.result ≡ min (cell_number (high_of c.args.t).x c.args.size + 1) (2 ^ 64 - 1) = c.above-x1.ensures ∙ ap (λ (v : Vec3). min (cell_number v.x c.args.size + 1) (2 ^ 64 - 1)) c.high-hi.ensures in h)) ((let h : c.below-y0.result ≡ cell_number (low_of c.args.t).y c.args.size - 1 = c.below-y0.ensures ∙ ap (λ (v : Vec3). cell_number v.y c.args.size - 1) c.low-lo.ensures in h)) ((let h : c.above-y1.result ≡ min (cell_number (high_of c.args.t).y c.args.size + 1) (2 ^ 64 - 1) = c.above-y1.ensures ∙ ap (λ (v : Vec3). min (cell_number v.y c.args.size + 1) (2 ^ 64 - 1)) c.high-hi.ensures in h)) ((let h : c.below-z0.result ≡ cell_number (low_of c.args.t).z c.args.size - 1 = c.below-z0.ensures ∙ ap (λ (v : Vec3). cell_number v.z c.args.size - 1) c.low-lo.ensures in h)) ((let h : c.above-z1.result ≡ min (cell_number (high_of c.args.t).z c.args.size + 1) (2 ^ 64 - 1) = c.above-z1.ensures ∙ ap (λ (v : Vec3). min (cell_number v.z c.args.size + 1) (2 ^ 64 - 1)) c.high-hi.ensures in h)) a.marks.now c.block.new.marks c.requires.1 c.block.ensures
+    reach-done a.t a.size a.depth a.centroids.now a.cells.now a.order.now a.first.now a.m c.requires.0 c.below-x0.result c.above-x1.result c.below-y0.result c.above-y1.result c.below-z0.result c.above-z1.result (c.below-x0.ensures ∙ ap (λ (v : Vec3). cell_number v.x c.args.size - 1) c.low-lo.ensures) (c.above-x1.ensures ∙ ap (λ (v : Vec3). min (cell_number v.x c.args.size + 1) (2 ^ 64 - 1)) c.high-hi.ensures) (c.below-y0.ensures ∙ ap (λ (v : Vec3). cell_number v.y c.args.size - 1) c.low-lo.ensures) (c.above-y1.ensures ∙ ap (λ (v : Vec3). min (cell_number v.y c.args.size + 1) (2 ^ 64 - 1)) c.high-hi.ensures) (c.below-z0.ensures ∙ ap (λ (v : Vec3). cell_number v.z c.args.size - 1) c.low-lo.ensures) (c.above-z1.ensures ∙ ap (λ (v : Vec3). min (cell_number v.z c.args.size + 1) (2 ^ 64 - 1)) c.high-hi.ensures) a.marks.now c.block.new.marks c.requires.1 c.block.ensures

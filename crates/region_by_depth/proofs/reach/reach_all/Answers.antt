@@ -3,6 +3,7 @@ use Prim.Native.Nat.{ℕ, ◌-◌, ◌≤◌}
 use Rattle.lists.proofs.Laws.{fold_to-none, fold_to-more, choose-true, choose-false}
 use Rattle.lists.specs.Lists.{fold_to, choose}
 use Rattle.region_by_depth.proofs.reach.reach_all.Goals as goal
+use Rattle.region_by_depth.proofs.reach.reach_all.Invariants.{step}
 use Rattle.region_by_nodes.specs.Nodes.{in_set}
 use Rattle.region_cells.specs.Depth.{corners_of}
 use Rattle.region_cells.specs.Steps.{reached, reached_by}
@@ -13,9 +14,6 @@ use mathlib.Core.List.{List, []}
 use mathlib.Core.Path.{◌≡◌, refl, sym, ap, ◌∙◌}
 use native.Mathlib.Nat.{le_antisymm}
 use native.Mathlib.Omega.{arith}
-
-abbrev step : List (List Float) → List (List ℕ) → List ℕ → List ℕ → List ℕ → ℕ → Float → Float → List (List Float) → ℕ → List Bool → List Bool
-step nodes tris surfaces starts kept s size depth centroids i w = choose (in_set surfaces starts kept s i) (reached size depth (corners_of nodes (get_or tris i [])) centroids w) w
 
 pub loop-t-init : goal.loop-t-init
 loop-t-init c = (omega arith, refl, sym (fold_to-none _ _))

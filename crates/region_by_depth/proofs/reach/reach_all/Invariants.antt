@@ -14,7 +14,7 @@ use mathlib.Core.Path.{◌≡◌, refl, sym, ap, ◌∙◌}
 use native.Mathlib.Nat.{le_antisymm}
 use native.Mathlib.Omega.{arith}
 
-abbrev step : List (List Float) → List (List ℕ) → List ℕ → List ℕ → List ℕ → ℕ → Float → Float → List (List Float) → ℕ → List Bool → List Bool
+abbrev pub step : List (List Float) → List (List ℕ) → List ℕ → List ℕ → List ℕ → ℕ → Float → Float → List (List Float) → ℕ → List Bool → List Bool
 step nodes tris surfaces starts kept s size depth centroids i w = choose (in_set surfaces starts kept s i) (reached size depth (corners_of nodes (get_or tris i [])) centroids w) w
 
 abbrev pub invariant-loop-t : goal.invariant-loop-t

@@ -4,6 +4,7 @@ use Rattle.lent.specs.Domain.{is_depth}
 use Rattle.lists.proofs.Laws.{choose-true, choose-false}
 use Rattle.region_passive.proofs.Solid.{deepened-none, deepened-more}
 use Rattle.region_passive.proofs.stages.by_depths.Goals as goal
+use Rattle.region_passive.proofs.stages.by_depths.Invariants.{sets_of}
 use Rattle.region_passive.specs.Passive.{Problem}
 use Rattle.region_passive.specs.Steps.{deepened, deepened_to}
 use lib.Ieee.{Float, nan}
@@ -12,10 +13,6 @@ use mathlib.Core.List.{List, []}
 use mathlib.Core.Path.{◌≡◌, refl, sym, ap, ◌∙◌}
 use native.Mathlib.Nat.{le_antisymm}
 use native.Mathlib.Omega.{arith}
-
--- what the sets are read from
-abbrev sets_of : List (List Float) → List (List ℕ) → List ℕ → List ℕ → List ℕ → List Float → Problem
-sets_of nodes' tris' surfaces' starts' kept' depths' = record { nodes = nodes'; tets = []; tris = tris'; surfaces = surfaces'; held = []; loaded = []; starts = starts'; kept = kept'; depths = depths' }
 
 pub loop-s-init : goal.loop-s-init
 loop-s-init c = (omega arith, refl, refl, refl, refl, refl, deepened-none _ _ _)

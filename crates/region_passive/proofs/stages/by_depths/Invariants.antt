@@ -13,6 +13,10 @@ use mathlib.Core.Path.{◌≡◌, refl, sym, ap, ◌∙◌}
 use native.Mathlib.Nat.{le_antisymm}
 use native.Mathlib.Omega.{arith}
 
+-- what the sets are read from
+abbrev pub sets_of : List (List Float) → List (List ℕ) → List ℕ → List ℕ → List ℕ → List Float → Problem
+sets_of nodes' tris' surfaces' starts' kept' depths' = record { nodes = nodes'; tets = []; tris = tris'; surfaces = surfaces'; held = []; loaded = []; starts = starts'; kept = kept'; depths = depths' }
+
 abbrev pub invariant-loop-s : goal.invariant-loop-s
 invariant-loop-s l = (l.s ≤ l.n) × (length l.cells ≡ length l.initial.cells) × (length l.order ≡ length l.initial.order) × (length l.place ≡ length l.initial.place) × (length l.first ≡ length l.initial.first) × (length l.marks ≡ length l.initial.marks) × (l.marks ≡ deepened_to (sets_of l.nodes l.tris l.surfaces l.starts l.kept l.depths) l.centroids l.s l.initial.marks)
 

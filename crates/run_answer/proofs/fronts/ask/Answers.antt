@@ -37,10 +37,10 @@ pub slice_bounds-ask-end-9 : goal.slice_bounds-ask-end-9
 slice_bounds-ask-end-9 c = front _ _ (omega (arith, c.requires.spare))
 
 pub ask-requires : goal.ask-requires
-ask-requires c =     (as_long _ _ _ c.requires.density c.requires.passive, as_long _ _ _ c.requires.spare c.requires.passive)
+ask-requires c = (as_long _ _ _ c.requires.density c.requires.passive, as_long _ _ _ c.requires.spare c.requires.passive)
 
 pub returns : goal.returns
-returns c =     let f = c.ask in
+returns c = let f = c.ask in
     let a = c.args in
     let n = a.state.setting.elements in
     let ys = f.last.1.1.1.1.1.1.1 in

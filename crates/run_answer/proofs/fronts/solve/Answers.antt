@@ -61,32 +61,32 @@ pub slice_bounds-solve-end-18 : goal.slice_bounds-solve-end-18
 slice_bounds-solve-end-18 c = front _ _ (omega (arith, c.requires.enough.dv))
 
 pub solve-requires : goal.solve-requires
-solve-requires c =     let p = c.requires.enough in record { long = (p.energies ∙ front _ _ p.passive, as_long _ _ _ p.volumes p.passive, as_long _ _ _ p.density p.passive, as_long _ _ _ p.design p.passive); long_2 = ((as_long _ _ _ p.free p.passive, as_long _ _ _ p.slope p.passive, as_long _ _ _ p.spare p.passive, as_long _ _ _ p.dc p.passive, as_long _ _ _ p.dv p.passive), ) }
+solve-requires c = let p = c.requires.enough in record { long = (p.energies ∙ front _ _ p.passive, as_long _ _ _ p.volumes p.passive, as_long _ _ _ p.density p.passive, as_long _ _ _ p.design p.passive); long_2 = (as_long _ _ _ p.free p.passive, as_long _ _ _ p.slope p.passive, as_long _ _ _ p.spare p.passive, as_long _ _ _ p.dc p.passive, as_long _ _ _ p.dv p.passive) }
 
 pub shape_of-design : goal.shape_of-design
-shape_of-design c = ((let h : (λ l ys. Free (c.args.state.setting.elements) l (ys ++ drop (c.args.state.setting.elements) l)) c.args.design.now c.solve.new.design = scratched _ c.solve.new.design c.args.design.now c.solve.auto.design c.requires.enough.design in h)).0
+shape_of-design c = (scratched _ c.solve.new.design c.args.design.now c.solve.auto.design c.requires.enough.design).0
 
 pub shape_of-last : goal.shape_of-last
-shape_of-last c =     let f = c.copy in
+shape_of-last c = let f = c.copy in
     (scratched (c.args.state.setting.elements) f.last.1.0 c.args.last.now f.kept.1.0 c.requires.enough.last).0
 
 pub shape_of-free : goal.shape_of-free
-shape_of-free c = ((let h : (λ l ys. Free (c.args.state.setting.elements) l (ys ++ drop (c.args.state.setting.elements) l)) c.args.free.now c.solve.new.free = scratched _ c.solve.new.free c.args.free.now c.solve.auto.free c.requires.enough.free in h)).0
+shape_of-free c = (scratched _ c.solve.new.free c.args.free.now c.solve.auto.free c.requires.enough.free).0
 
 pub shape_of-slope : goal.shape_of-slope
-shape_of-slope c = ((let h : (λ l ys. Free (c.args.state.setting.elements) l (ys ++ drop (c.args.state.setting.elements) l)) c.args.slope.now c.solve.new.next = scratched _ c.solve.new.next c.args.slope.now c.solve.auto.next c.requires.enough.slope in h)).0
+shape_of-slope c = (scratched _ c.solve.new.next c.args.slope.now c.solve.auto.next c.requires.enough.slope).0
 
 pub shape_of-spare : goal.shape_of-spare
-shape_of-spare c = ((let h : (λ l ys. Free (c.args.state.setting.elements) l (ys ++ drop (c.args.state.setting.elements) l)) c.args.spare.now c.solve.new.spare = scratched _ c.solve.new.spare c.args.spare.now c.solve.auto.spare c.requires.enough.spare in h)).0
+shape_of-spare c = (scratched _ c.solve.new.spare c.args.spare.now c.solve.auto.spare c.requires.enough.spare).0
 
 pub shape_of-dc : goal.shape_of-dc
-shape_of-dc c = ((let h : (λ l ys. Free (c.args.state.setting.elements) l (ys ++ drop (c.args.state.setting.elements) l)) c.args.dc.now c.solve.new.dc = scratched _ c.solve.new.dc c.args.dc.now c.solve.auto.dc c.requires.enough.dc in h)).0
+shape_of-dc c = (scratched _ c.solve.new.dc c.args.dc.now c.solve.auto.dc c.requires.enough.dc).0
 
 pub shape_of-dv : goal.shape_of-dv
-shape_of-dv c = ((let h : (λ l ys. Free (c.args.state.setting.elements) l (ys ++ drop (c.args.state.setting.elements) l)) c.args.dv.now c.solve.new.dv = scratched _ c.solve.new.dv c.args.dv.now c.solve.auto.dv c.requires.enough.dv in h)).0
+shape_of-dv c = (scratched _ c.solve.new.dv c.args.dv.now c.solve.auto.dv c.requires.enough.dv).0
 
 pub returns : goal.returns
-returns c =     let f = c.copy in
+returns c = let f = c.copy in
     let a = c.args in
     let p = c.requires.enough in
     let n = c.args.state.setting.elements in
@@ -101,5 +101,5 @@ returns c =     let f = c.copy in
       entry = c.solve.ensures.0 ∙ (λ i. record_at ((λ t s. case_at (take (c.args.state.setting.elements) c.args.volumes.now) (take (c.args.state.setting.elements) c.args.passive.now) s (take c.args.state.setting.entries c.args.near.now) (take c.args.state.setting.entries c.args.coef.now) c.args.state.setting.fraction t) (c.sharpens-sharpen.ensures i) (starts i)) steep x q u (add-one a.state.progress.rounds i));
       design-is = laid n ys _ a.design.now (c.solve.ensures.1 ∙ (λ i. (update_at ((λ t s. case_at (take (c.args.state.setting.elements) c.args.volumes.now) (take (c.args.state.setting.elements) c.args.passive.now) s (take c.args.state.setting.entries c.args.near.now) (take c.args.state.setting.entries c.args.coef.now) c.args.state.setting.fraction t) (c.sharpens-sharpen.ensures i) (starts i)) steep x q u).design)) k p.design;
       last-is = laid n f.last.1.0 q a.last.now f.ensures f.kept.1.0 p.last;
-      work = record { free = (let h : (λ l ys. Free (c.args.state.setting.elements) l (ys ++ drop (c.args.state.setting.elements) l)) c.args.free.now c.solve.new.free = scratched _ c.solve.new.free c.args.free.now c.solve.auto.free c.requires.enough.free in h); slope = (let h : (λ l ys. Free (c.args.state.setting.elements) l (ys ++ drop (c.args.state.setting.elements) l)) c.args.slope.now c.solve.new.next = scratched _ c.solve.new.next c.args.slope.now c.solve.auto.next c.requires.enough.slope in h); spare = (let h : (λ l ys. Free (c.args.state.setting.elements) l (ys ++ drop (c.args.state.setting.elements) l)) c.args.spare.now c.solve.new.spare = scratched _ c.solve.new.spare c.args.spare.now c.solve.auto.spare c.requires.enough.spare in h); dc = (let h : (λ l ys. Free (c.args.state.setting.elements) l (ys ++ drop (c.args.state.setting.elements) l)) c.args.dc.now c.solve.new.dc = scratched _ c.solve.new.dc c.args.dc.now c.solve.auto.dc c.requires.enough.dc in h); dv = (let h : (λ l ys. Free (c.args.state.setting.elements) l (ys ++ drop (c.args.state.setting.elements) l)) c.args.dv.now c.solve.new.dv = scratched _ c.solve.new.dv c.args.dv.now c.solve.auto.dv c.requires.enough.dv in h) };
+      work = record { free = (scratched _ c.solve.new.free c.args.free.now c.solve.auto.free c.requires.enough.free); slope = (scratched _ c.solve.new.next c.args.slope.now c.solve.auto.next c.requires.enough.slope); spare = (scratched _ c.solve.new.spare c.args.spare.now c.solve.auto.spare c.requires.enough.spare); dc = (scratched _ c.solve.new.dc c.args.dc.now c.solve.auto.dc c.requires.enough.dc); dv = (scratched _ c.solve.new.dv c.args.dv.now c.solve.auto.dv c.requires.enough.dv) };
     }

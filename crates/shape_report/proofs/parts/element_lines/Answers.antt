@@ -20,7 +20,7 @@ pub element_line-next-requires : goal.element_line-next-requires
 element_line-next-requires c = within c.loop-e.invariant.1
 
 pub loop-e-preserved : goal.loop-e-preserved
-loop-e-preserved c =     let x = c.loop-e in
+loop-e-preserved c = let x = c.loop-e in
     let density = c.args.density.now in
     let e : 1 + x.e ≡ x.e + 1 = omega arith in
     (search rules, retext (sym (lines_more element_line 1 x.e density nan (search rules) ∙ ap (λ (k : ℕ). lines_from element_line 1 (take x.e density) ++ element_line k (get_or density x.e nan)) e)) (then x.invariant.1 c.element_line-next.ensures))

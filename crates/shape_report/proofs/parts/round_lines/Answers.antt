@@ -16,7 +16,7 @@ pub round_line-next-requires : goal.round_line-next-requires
 round_line-next-requires c = within c.loop-i.invariant.2
 
 pub loop-i-preserved : goal.loop-i-preserved
-loop-i-preserved c =     let x = c.loop-i in
+loop-i-preserved c = let x = c.loop-i in
     let history = c.args.history in
     (search rules, search rules, retext (sym (lines_more (λ k r. round_line r) 1 x.i history _ (search rules))) (then x.invariant.2 c.round_line-next.ensures))
 

@@ -16,7 +16,7 @@ pub byte-next-requires : goal.byte-next-requires
 byte-next-requires c = within c.loop-i.invariant.1
 
 pub loop-i-preserved : goal.loop-i-preserved
-loop-i-preserved c =     let x = c.loop-i in
+loop-i-preserved c = let x = c.loop-i in
     let text = c.args.text.now in
     (search rules, retext (sym (ap (λ (k : ℕ). take k text) (add-one x.i) ∙ take-suc text x.i 0 (search rules))) (then x.invariant.1 c.byte-next.ensures))
 
@@ -24,4 +24,4 @@ pub shape_of-out : goal.shape_of-out
 shape_of-out c = same-long c.loop-i.invariant.1
 
 pub returns : goal.returns
-returns c =     retext (take_all c.loop-i.i c.args.text.now (search rules)) c.loop-i.invariant.1
+returns c = retext (take_all c.loop-i.i c.args.text.now (search rules)) c.loop-i.invariant.1

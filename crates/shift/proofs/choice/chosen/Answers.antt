@@ -4,6 +4,7 @@ use Rattle.lists.proofs.Laws.{fold_to-none, fold_to-more}
 use Rattle.lists.specs.Lists.{fold_to}
 use Rattle.shift.proofs.Turns.{turned}
 use Rattle.shift.proofs.choice.chosen.Goals as goal
+use Rattle.shift.proofs.choice.chosen.Invariants.{bare}
 use Rattle.shift.specs.Grants.{turn}
 use Rattle.shift.specs.declared.Shift.{Shift}
 use borrow.Author.Rules.{rules}
@@ -13,10 +14,6 @@ use mathlib.Core.List.{List}
 use mathlib.Core.Path.{◌≡◌, sym, ap, ◌∙◌}
 use native.Mathlib.Nat.{le_antisymm}
 use native.Mathlib.Omega.{arith}
-
--- a turn does not look at how many jobs there are
-abbrev bare : List ℕ → List ℕ → List ℕ → Shift
-bare share limit granted = record { jobs = 0; share = share; limit = limit; granted = granted }
 
 pub loop-j-init : goal.loop-j-init
 loop-j-init c = (omega arith, sym (fold_to-none _ 16))

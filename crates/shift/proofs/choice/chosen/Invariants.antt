@@ -14,6 +14,10 @@ use mathlib.Core.Path.{◌≡◌, sym, ap, ◌∙◌}
 use native.Mathlib.Nat.{le_antisymm}
 use native.Mathlib.Omega.{arith}
 
+-- a turn does not look at how many jobs there are
+abbrev pub bare : List ℕ → List ℕ → List ℕ → Shift
+bare share limit granted = record { jobs = 0; share = share; limit = limit; granted = granted }
+
 abbrev pub invariant-loop-j : goal.invariant-loop-j
 invariant-loop-j l = (l.j ≤ 16) × (l.best ≡ fold_to (turn (bare l.share l.limit l.granted) (λ k. get_or l.marks k false)) 16 l.j)
 

@@ -84,7 +84,4 @@ pub shape_of-passive : goal.shape_of-passive
 shape_of-passive c = c.loop-e.invariant.4
 
 pub returns : goal.returns
-returns c = let done = le_antisymm c.loop-e.invariant.0 c.loop-e-test.false in (
-  rw done at c.loop-e.invariant.5,
-  (rw done at c.loop-e.invariant.6, (rw done at c.loop-e.invariant.7, rw done at c.loop-e.invariant.8)),
-)
+returns c = let done = le_antisymm c.loop-e.invariant.0 c.loop-e-test.false in record { volumes_after = rw done at c.loop-e.invariant.5; centroids_after = rw done at c.loop-e.invariant.6; weights_after = rw done at c.loop-e.invariant.7; passive_after = rw done at c.loop-e.invariant.8 }

@@ -7,7 +7,7 @@ use lib.Ieee.{binary64, fits}
 use mathlib.Core.Path.{refl, sym, ◌∙◌}
 
 pub returns-then-orderly : goal.returns-then-orderly
-returns-then-orderly c =     let a = c.args in
+returns-then-orderly c = let a = c.args in
     known_is a.x.now a.gain.now a.dv.now a.passive.now a.m a.target a.tolerance a.solid (sym c.orderly.ensures ∙ c.if-orderly.true) (λ k h. c.type_inv.x k) (holds (fits binary64 a.m) c.well_formed.1.1.1.1.0.1) c.requires.1
     _ _ _ _ _ _ _ c.kept_at-a.ensures c.kept_at-b.ensures c.abs.ensures c.abs-then-orderly.ensures c.either.ensures c.either-then-orderly.ensures
 
