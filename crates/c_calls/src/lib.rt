@@ -30,12 +30,12 @@ pub fn open(
     found: &mut [u32],
     bits: &mut [u64],
 ) -> RunReturned
-    ensures { OpenedAs state goal (record { centroids = centroids.entry.now; mirrors = mirrors.now; goal = goal_of goal; flag = flag }) room
-        (record { volumes = volumes.entry.now; passive = passive.now; starts = starts.old; near = near.old; coef = coef.old; design = design.old; density = density.old; last = last.now })
-        (record { cell = cell.entry.now; order = order.old; first = first.old; sorted = sorted.old; stamp = stamp.old; weight = weight.old; found = found.old; bits = bits.old })
+    ensures { OpenedAs state goal (record { centroids = centroids.now; mirrors = mirrors.now; goal = goal_of goal; flag = flag }) room
+        (record { volumes = volumes.now; passive = passive.now; starts = starts.old; near = near.old; coef = coef.old; design = design.old; density = density.old; last = last.now })
+        (record { cell = cell.old; order = order.old; first = first.old; sorted = sorted.old; stamp = stamp.old; weight = weight.old; found = found.old; bits = bits.old })
         result
-        (record { volumes = volumes.entry.now; passive = passive.now; starts = starts.new; near = near.new; coef = coef.new; design = design.new; density = density.new; last = last.now })
-        (record { cell = cell.exit.now; order = order.new; first = first.new; sorted = sorted.new; stamp = stamp.new; weight = weight.new; found = found.new; bits = bits.new }) }
+        (record { volumes = volumes.now; passive = passive.now; starts = starts.new; near = near.new; coef = coef.new; design = design.new; density = density.new; last = last.now })
+        (record { cell = cell.new; order = order.new; first = first.new; sorted = sorted.new; stamp = stamp.new; weight = weight.new; found = found.new; bits = bits.new }) }
 {
     let t = c_numbers::unknown(state) | c_numbers::no_goal(goal);
     if t {
@@ -89,11 +89,11 @@ pub fn answer(
     dv: &mut [f64],
 ) -> RunStep
     ensures { AnsweredAs state (record { heard = heard_of heard; energies = energies.now }) room
-        (record { volumes = volumes.entry.now; passive = passive.now; starts = starts.now; near = near.now; coef = coef.now; design = design.old; density = density.old; last = last.old })
-        (record { free = free.entry.now; slope = slope.old; spare = spare.old; dc = dc.old; dv = dv.old })
+        (record { volumes = volumes.now; passive = passive.now; starts = starts.now; near = near.now; coef = coef.now; design = design.old; density = density.old; last = last.old })
+        (record { free = free.old; slope = slope.old; spare = spare.old; dc = dc.old; dv = dv.old })
         result
-        (record { volumes = volumes.entry.now; passive = passive.now; starts = starts.now; near = near.now; coef = coef.now; design = design.new; density = density.new; last = last.new })
-        (record { free = free.exit.now; slope = slope.new; spare = spare.new; dc = dc.new; dv = dv.new }) }
+        (record { volumes = volumes.now; passive = passive.now; starts = starts.now; near = near.now; coef = coef.now; design = design.new; density = density.new; last = last.new })
+        (record { free = free.new; slope = slope.new; spare = spare.new; dc = dc.new; dv = dv.new }) }
 {
     if c_numbers::unknown(state) {
         return c_numbers::unrecorded(room, state);

@@ -25,7 +25,7 @@ pub extern "C" fn sokdrib_filter_build(
     found: &mut [u32],
     bits: &mut [u64],
 ) -> u32
-    ensures { Built centroids.now volumes.now radius planes.now (record { starts = starts.entry.now; near = near.old; coef = coef.old; cell = cell.old; order = order.old; first = first.old; sorted = sorted.old; stamp = stamp.old; weight = weight.old; found = found.old; bits = bits.old }) result (record { starts = starts.exit.now; near = near.new; coef = coef.new; cell = cell.new; order = order.new; first = first.new; sorted = sorted.new; stamp = stamp.new; weight = weight.new; found = found.new; bits = bits.new }) }
+    ensures { Built centroids.now volumes.now radius planes.now (record { starts = starts.old; near = near.old; coef = coef.old; cell = cell.old; order = order.old; first = first.old; sorted = sorted.old; stamp = stamp.old; weight = weight.old; found = found.old; bits = bits.old }) result (record { starts = starts.new; near = near.new; coef = coef.new; cell = cell.new; order = order.new; first = first.new; sorted = sorted.new; stamp = stamp.new; weight = weight.new; found = found.new; bits = bits.new }) }
 {
     filter_build::build(
         centroids, volumes, radius, planes, starts, near, coef, cell, order, first, sorted, stamp,

@@ -32,12 +32,12 @@ pub extern "C" fn sokdrib_open(
     found: &mut [u32],
     bits: &mut [u64],
 ) -> RunReturned
-    ensures { OpenedAs state goal (record { centroids = centroids.entry.now; mirrors = mirrors.now; goal = goal_of goal; flag = flag }) room
-        (record { volumes = volumes.entry.now; passive = passive.now; starts = starts.old; near = near.old; coef = coef.old; design = design.old; density = density.old; last = last.now })
-        (record { cell = cell.entry.now; order = order.old; first = first.old; sorted = sorted.old; stamp = stamp.old; weight = weight.old; found = found.old; bits = bits.old })
+    ensures { OpenedAs state goal (record { centroids = centroids.now; mirrors = mirrors.now; goal = goal_of goal; flag = flag }) room
+        (record { volumes = volumes.now; passive = passive.now; starts = starts.old; near = near.old; coef = coef.old; design = design.old; density = density.old; last = last.now })
+        (record { cell = cell.old; order = order.old; first = first.old; sorted = sorted.old; stamp = stamp.old; weight = weight.old; found = found.old; bits = bits.old })
         result
-        (record { volumes = volumes.entry.now; passive = passive.now; starts = starts.new; near = near.new; coef = coef.new; design = design.new; density = density.new; last = last.now })
-        (record { cell = cell.exit.now; order = order.new; first = first.new; sorted = sorted.new; stamp = stamp.new; weight = weight.new; found = found.new; bits = bits.new }) }
+        (record { volumes = volumes.now; passive = passive.now; starts = starts.new; near = near.new; coef = coef.new; design = design.new; density = density.new; last = last.now })
+        (record { cell = cell.new; order = order.new; first = first.new; sorted = sorted.new; stamp = stamp.new; weight = weight.new; found = found.new; bits = bits.new }) }
 {
     c_calls::open(
         room, state, goal, flag, volumes, centroids, passive, mirrors, starts, near, coef, design,
@@ -69,11 +69,11 @@ pub extern "C" fn sokdrib_answer(
     dv: &mut [f64],
 ) -> RunStep
     ensures { AnsweredAs state (record { heard = heard_of heard; energies = energies.now }) room
-        (record { volumes = volumes.entry.now; passive = passive.now; starts = starts.now; near = near.now; coef = coef.now; design = design.old; density = density.old; last = last.old })
-        (record { free = free.entry.now; slope = slope.old; spare = spare.old; dc = dc.old; dv = dv.old })
+        (record { volumes = volumes.now; passive = passive.now; starts = starts.now; near = near.now; coef = coef.now; design = design.old; density = density.old; last = last.old })
+        (record { free = free.old; slope = slope.old; spare = spare.old; dc = dc.old; dv = dv.old })
         result
-        (record { volumes = volumes.entry.now; passive = passive.now; starts = starts.now; near = near.now; coef = coef.now; design = design.new; density = density.new; last = last.new })
-        (record { free = free.exit.now; slope = slope.new; spare = spare.new; dc = dc.new; dv = dv.new }) }
+        (record { volumes = volumes.now; passive = passive.now; starts = starts.now; near = near.now; coef = coef.now; design = design.new; density = density.new; last = last.new })
+        (record { free = free.new; slope = slope.new; spare = spare.new; dc = dc.new; dv = dv.new }) }
 {
     c_calls::answer(
         room, state, heard, energies, volumes, passive, starts, near, coef, design, density, last,

@@ -32,8 +32,8 @@ pub extern "C" fn sokdrib_update(
     work: &mut [f64],
 ) -> Update
     ensures refused_value { result.refused ≡ refusal_of (not (eqb (length dc.now) (length x.now)) || not (eqb (length dv.now) (length x.now)) || not (eqb (length passive.now) (length x.now)) || not (eqb (length volumes.now) (length x.now))) (ltb (length design.old) (length x.now) || ltb (length gain.old) (length x.now) || ltb (length work.old) (length x.now)) }
-    ensures value { result ≡ unless result.refused (told_of (answer_of (record { x = x.entry.now; gain = gains_of dc.now dv.now; dv = dv.now; passive = passive.now; move = m; target = target; tolerance = tolerance; rule = rule_of rule value; starts = starts.now; near = near.now; coef = coef.now; volumes = volumes.now }))) (refused_with result.refused) }
-    ensures design_after { design.new ≡ left_by result.refused (updated (record { x = x.entry.now; gain = gains_of dc.now dv.now; dv = dv.now; passive = passive.now; move = m; target = target; tolerance = tolerance; rule = rule_of rule value; starts = starts.now; near = near.now; coef = coef.now; volumes = volumes.now })).design design.old }
+    ensures value { result ≡ unless result.refused (told_of (answer_of (record { x = x.now; gain = gains_of dc.now dv.now; dv = dv.now; passive = passive.now; move = m; target = target; tolerance = tolerance; rule = rule_of rule value; starts = starts.now; near = near.now; coef = coef.now; volumes = volumes.now }))) (refused_with result.refused) }
+    ensures design_after { design.new ≡ left_by result.refused (updated (record { x = x.now; gain = gains_of dc.now dv.now; dv = dv.now; passive = passive.now; move = m; target = target; tolerance = tolerance; rule = rule_of rule value; starts = starts.now; near = near.now; coef = coef.now; volumes = volumes.now })).design design.old }
     ensures worked_by { (WorkedBy result.refused (length x.now) gain.old gain.new) × (WorkedBy result.refused (length x.now) work.old work.new) }
 {
     let n = x.len();

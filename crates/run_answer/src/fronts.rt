@@ -65,10 +65,10 @@ pub fn solve(
         (record { free = free.now; slope = slope.old; spare = spare.old; dc = dc.old; dv = dv.old }) }
     requires elements_bound { (state.setting.elements < 65536) × (state.progress.rounds < state.setting.max_iterations) }
     ensures { Solved state energies.now
-        (record { volumes = volumes.entry.now; passive = passive.now; starts = starts.now; near = near.now; coef = coef.now; design = design.old; density = density.now; last = last.old })
-        (record { free = free.entry.now; slope = slope.old; spare = spare.old; dc = dc.old; dv = dv.old })
+        (record { volumes = volumes.now; passive = passive.now; starts = starts.now; near = near.now; coef = coef.now; design = design.old; density = density.now; last = last.old })
+        (record { free = free.old; slope = slope.old; spare = spare.old; dc = dc.old; dv = dv.old })
         result design.new last.new
-        (record { free = free.exit.now; slope = slope.new; spare = spare.new; dc = dc.new; dv = dv.new }) }
+        (record { free = free.new; slope = slope.new; spare = spare.new; dc = dc.new; dv = dv.new }) }
 {
     let setting = state.setting;
     let choice = setting.sharpen;

@@ -99,11 +99,11 @@ fn solves(
         (record { free = free.now; slope = slope.old; spare = spare.old; dc = dc.old; dv = dv.old }) }
     requires fit { Fit state }
     ensures { Followed state (record { heard = heard; energies = energies.now })
-        (record { volumes = volumes.entry.now; passive = passive.now; starts = starts.now; near = near.now; coef = coef.now; design = design.old; density = density.old; last = last.old })
-        (record { free = free.entry.now; slope = slope.old; spare = spare.old; dc = dc.old; dv = dv.old })
+        (record { volumes = volumes.now; passive = passive.now; starts = starts.now; near = near.now; coef = coef.now; design = design.old; density = density.old; last = last.old })
+        (record { free = free.old; slope = slope.old; spare = spare.old; dc = dc.old; dv = dv.old })
         result
-        (record { volumes = volumes.entry.now; passive = passive.now; starts = starts.now; near = near.now; coef = coef.now; design = design.new; density = density.new; last = last.new })
-        (record { free = free.exit.now; slope = slope.new; spare = spare.new; dc = dc.new; dv = dv.new }) }
+        (record { volumes = volumes.now; passive = passive.now; starts = starts.now; near = near.now; coef = coef.now; design = design.new; density = density.new; last = last.new })
+        (record { free = free.new; slope = slope.new; spare = spare.new; dc = dc.new; dv = dv.new }) }
 {
     let entry = fronts::solve(
         state,
@@ -180,11 +180,11 @@ pub fn answer_core(
     dv: &mut [f64],
 ) -> Step
     ensures { CoreAnswered state (record { heard = heard; energies = energies.now }) room
-        (record { volumes = volumes.entry.now; passive = passive.now; starts = starts.now; near = near.now; coef = coef.now; design = design.old; density = density.old; last = last.old })
-        (record { free = free.entry.now; slope = slope.old; spare = spare.old; dc = dc.old; dv = dv.old })
+        (record { volumes = volumes.now; passive = passive.now; starts = starts.now; near = near.now; coef = coef.now; design = design.old; density = density.old; last = last.old })
+        (record { free = free.old; slope = slope.old; spare = spare.old; dc = dc.old; dv = dv.old })
         result
-        (record { volumes = volumes.entry.now; passive = passive.now; starts = starts.now; near = near.now; coef = coef.now; design = design.new; density = density.new; last = last.new })
-        (record { free = free.exit.now; slope = slope.new; spare = spare.new; dc = dc.new; dv = dv.new }) }
+        (record { volumes = volumes.now; passive = passive.now; starts = starts.now; near = near.now; coef = coef.now; design = design.new; density = density.new; last = last.new })
+        (record { free = free.new; slope = slope.new; spare = spare.new; dc = dc.new; dv = dv.new }) }
 {
     let v = run_verdict::verdict(
         state,

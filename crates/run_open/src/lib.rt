@@ -40,12 +40,12 @@ pub fn open_core(
     found: &mut [u32],
     bits: &mut [u64],
 ) -> Returned
-    ensures { CoreOpened state (record { centroids = centroids.entry.now; mirrors = mirrors.now; goal = goal; flag = flag }) room
-        (record { volumes = volumes.entry.now; passive = passive.now; starts = starts.old; near = near.old; coef = coef.old; design = design.old; density = density.old; last = last.now })
-        (record { cell = cell.entry.now; order = order.old; first = first.old; sorted = sorted.old; stamp = stamp.old; weight = weight.old; found = found.old; bits = bits.old })
+    ensures { CoreOpened state (record { centroids = centroids.now; mirrors = mirrors.now; goal = goal; flag = flag }) room
+        (record { volumes = volumes.now; passive = passive.now; starts = starts.old; near = near.old; coef = coef.old; design = design.old; density = density.old; last = last.now })
+        (record { cell = cell.old; order = order.old; first = first.old; sorted = sorted.old; stamp = stamp.old; weight = weight.old; found = found.old; bits = bits.old })
         result
-        (record { volumes = volumes.entry.now; passive = passive.now; starts = starts.new; near = near.new; coef = coef.new; design = design.new; density = density.new; last = last.now })
-        (record { cell = cell.exit.now; order = order.new; first = first.new; sorted = sorted.new; stamp = stamp.new; weight = weight.new; found = found.new; bits = bits.new }) }
+        (record { volumes = volumes.now; passive = passive.now; starts = starts.new; near = near.new; coef = coef.new; design = design.new; density = density.new; last = last.now })
+        (record { cell = cell.new; order = order.new; first = first.new; sorted = sorted.new; stamp = stamp.new; weight = weight.new; found = found.new; bits = bits.new }) }
 {
     let phase = state.phase;
     if !run_open_last::in_turn(phase) {

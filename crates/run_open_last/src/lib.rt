@@ -40,9 +40,9 @@ pub fn lastly(
 ) -> Returned
     requires { (length volumes.now ≤ length density.old) × (length passive.now ≤ length design.old) }
     ensures { Lastly flag state goal entries volumes.now passive.now design.old density.old
-        (record { cell = cell.entry.now; order = order.old; first = first.old; sorted = sorted.old; stamp = stamp.old; weight = weight.old; found = found.old; bits = bits.old })
+        (record { cell = cell.old; order = order.old; first = first.old; sorted = sorted.old; stamp = stamp.old; weight = weight.old; found = found.old; bits = bits.old })
         result design.new density.new
-        (record { cell = cell.exit.now; order = order.new; first = first.new; sorted = sorted.new; stamp = stamp.new; weight = weight.new; found = found.new; bits = bits.new }) }
+        (record { cell = cell.new; order = order.new; first = first.new; sorted = sorted.new; stamp = stamp.new; weight = weight.new; found = found.new; bits = bits.new }) }
 {
     if flag {
         filter_wipe::wipe_work(cell, order, first, sorted, stamp, weight, found, bits);

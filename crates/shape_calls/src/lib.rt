@@ -37,13 +37,13 @@ pub fn open(
     found: &mut [u32],
     bits: &mut [u64],
 ) -> Turn
-    ensures { Opened state (record { centroids = centroids.entry.now; mirrors = mirrors.now; goal = goal; flag = flag })
-        (record { volumes = volumes.entry.now; passive = passive.now; starts = starts.old; near = near.old; coef = coef.old; design = design.old; density = density.old; last = last.now })
-        (record { cell = cell.entry.now; order = order.old; first = first.old; sorted = sorted.old; stamp = stamp.old; weight = weight.old; found = found.old; bits = bits.old })
+    ensures { Opened state (record { centroids = centroids.now; mirrors = mirrors.now; goal = goal; flag = flag })
+        (record { volumes = volumes.now; passive = passive.now; starts = starts.old; near = near.old; coef = coef.old; design = design.old; density = density.old; last = last.now })
+        (record { cell = cell.old; order = order.old; first = first.old; sorted = sorted.old; stamp = stamp.old; weight = weight.old; found = found.old; bits = bits.old })
         history
         result.returned
-        (record { volumes = volumes.entry.now; passive = passive.now; starts = starts.new; near = near.new; coef = coef.new; design = design.new; density = density.new; last = last.now })
-        (record { cell = cell.exit.now; order = order.new; first = first.new; sorted = sorted.new; stamp = stamp.new; weight = weight.new; found = found.new; bits = bits.new })
+        (record { volumes = volumes.now; passive = passive.now; starts = starts.new; near = near.new; coef = coef.new; design = design.new; density = density.new; last = last.now })
+        (record { cell = cell.new; order = order.new; first = first.new; sorted = sorted.new; stamp = stamp.new; weight = weight.new; found = found.new; bits = bits.new })
         result.history }
 {
     let mut held = history;
@@ -77,12 +77,12 @@ pub fn answer(
     dv: &mut [f64],
 ) -> Turn
     ensures { Answered state (record { heard = heard; energies = energies.now })
-        (record { volumes = volumes.entry.now; passive = passive.now; starts = starts.now; near = near.now; coef = coef.now; design = design.old; density = density.old; last = last.old })
-        (record { free = free.entry.now; slope = slope.old; spare = spare.old; dc = dc.old; dv = dv.old })
+        (record { volumes = volumes.now; passive = passive.now; starts = starts.now; near = near.now; coef = coef.now; design = design.old; density = density.old; last = last.old })
+        (record { free = free.old; slope = slope.old; spare = spare.old; dc = dc.old; dv = dv.old })
         history
         result.returned
-        (record { volumes = volumes.entry.now; passive = passive.now; starts = starts.now; near = near.now; coef = coef.now; design = design.new; density = density.new; last = last.new })
-        (record { free = free.exit.now; slope = slope.new; spare = spare.new; dc = dc.new; dv = dv.new })
+        (record { volumes = volumes.now; passive = passive.now; starts = starts.now; near = near.now; coef = coef.now; design = design.new; density = density.new; last = last.new })
+        (record { free = free.new; slope = slope.new; spare = spare.new; dc = dc.new; dv = dv.new })
         result.history }
 {
     let mut held = history;

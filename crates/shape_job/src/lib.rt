@@ -68,10 +68,10 @@ fn turn(
     dc: &mut [f64],
     dv: &mut [f64],
 ) -> Turn
-    ensures { result_in result (record { volumes = volumes.entry.now; passive = passive.now; starts = starts.now; near = near.now; coef = coef.now; design = design.new; density = density.new; last = last.new })
+    ensures { result_in result (record { volumes = volumes.now; passive = passive.now; starts = starts.now; near = near.now; coef = coef.now; design = design.new; density = density.new; last = last.new })
         ≡ answer_of t.returned.state (answer_to weights.now (length energies.old) density.old)
-        (lengths_of (record { free = free.entry.now; slope = slope.old; spare = spare.old; dc = dc.old; dv = dv.old }))
-        (lists_of (record { volumes = volumes.entry.now; passive = passive.now; starts = starts.now; near = near.now; coef = coef.now; design = design.old; density = density.old; last = last.old }) t.history) }
+        (lengths_of (record { free = free.old; slope = slope.old; spare = spare.old; dc = dc.old; dv = dv.old }))
+        (lists_of (record { volumes = volumes.now; passive = passive.now; starts = starts.now; near = near.now; coef = coef.now; design = design.old; density = density.old; last = last.old }) t.history) }
 {
     shape_solver::solve(weights, &density[..], energies);
     let returned = t.returned;
@@ -123,11 +123,11 @@ fn rounds(
     dc: &mut [f64],
     dv: &mut [f64],
 ) -> Turn
-    ensures { result_in result (record { volumes = volumes.entry.now; passive = passive.now; starts = starts.now; near = near.now; coef = coef.now; design = design.new; density = density.new; last = last.new })
+    ensures { result_in result (record { volumes = volumes.now; passive = passive.now; starts = starts.now; near = near.now; coef = coef.now; design = design.new; density = density.new; last = last.new })
         ≡ answers_from weights.now (length energies.old)
-        (lengths_of (record { free = free.entry.now; slope = slope.old; spare = spare.old; dc = dc.old; dv = dv.old }))
+        (lengths_of (record { free = free.old; slope = slope.old; spare = spare.old; dc = dc.old; dv = dv.old }))
         k
-        (result_in start (record { volumes = volumes.entry.now; passive = passive.now; starts = starts.now; near = near.now; coef = coef.now; design = design.old; density = density.old; last = last.old })) }
+        (result_in start (record { volumes = volumes.now; passive = passive.now; starts = starts.now; near = near.now; coef = coef.now; design = design.old; density = density.old; last = last.old })) }
 {
     let mut t = start;
     let mut left = k;
@@ -178,12 +178,12 @@ pub fn run(
     dc: &mut [f64],
     dv: &mut [f64],
 ) -> Turn
-    ensures { result_in result (record { volumes = volumes.entry.now; passive = passive.now; starts = starts.new; near = near.new; coef = coef.new; design = design.new; density = density.new; last = last.new })
+    ensures { result_in result (record { volumes = volumes.now; passive = passive.now; starts = starts.new; near = near.new; coef = coef.new; design = design.new; density = density.new; last = last.new })
         ≡ job_of weights.now (length energies.old)
-        (open_lengths (record { cell = cell.entry.now; order = order.old; first = first.old; sorted = sorted.old; stamp = stamp.old; weight = weight.old; found = found.old; bits = bits.old }))
-        (lengths_of (record { free = free.entry.now; slope = slope.old; spare = spare.old; dc = dc.old; dv = dv.old }))
-        (record { centroids = centroids.entry.now; mirrors = mirrors.now; goal = goal; flag = false })
-        (lists_of (record { volumes = volumes.entry.now; passive = passive.now; starts = starts.old; near = near.old; coef = coef.old; design = design.old; density = density.old; last = last.old }) history) }
+        (open_lengths (record { cell = cell.old; order = order.old; first = first.old; sorted = sorted.old; stamp = stamp.old; weight = weight.old; found = found.old; bits = bits.old }))
+        (lengths_of (record { free = free.old; slope = slope.old; spare = spare.old; dc = dc.old; dv = dv.old }))
+        (record { centroids = centroids.now; mirrors = mirrors.now; goal = goal; flag = false })
+        (lists_of (record { volumes = volumes.now; passive = passive.now; starts = starts.old; near = near.old; coef = coef.old; design = design.old; density = density.old; last = last.old }) history) }
 {
     let t = shape_calls::open(
         fresh(),

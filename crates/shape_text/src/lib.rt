@@ -78,10 +78,10 @@ pub fn text(
     out: &mut [u8],
 ) -> usize
     ensures { Wrote (text_of (outcome_of (job_of weights.now (length energies.old)
-        (open_lengths (record { cell = cell.entry.now; order = order.old; first = first.old; sorted = sorted.old; stamp = stamp.old; weight = weight.old; found = found.old; bits = bits.old }))
-        (lengths_of (record { free = free.entry.now; slope = slope.old; spare = spare.old; dc = dc.old; dv = dv.old }))
-        (record { centroids = centroids.entry.now; mirrors = mirrors.now; goal = goal; flag = false })
-        (lists_of (record { volumes = volumes.entry.now; passive = passive.now; starts = starts.old; near = near.old; coef = coef.old; design = design.old; density = density.old; last = last.old }) history))))
+        (open_lengths (record { cell = cell.old; order = order.old; first = first.old; sorted = sorted.old; stamp = stamp.old; weight = weight.old; found = found.old; bits = bits.old }))
+        (lengths_of (record { free = free.old; slope = slope.old; spare = spare.old; dc = dc.old; dv = dv.old }))
+        (record { centroids = centroids.now; mirrors = mirrors.now; goal = goal; flag = false })
+        (lists_of (record { volumes = volumes.now; passive = passive.now; starts = starts.old; near = near.old; coef = coef.old; design = design.old; density = density.old; last = last.old }) history))))
         0 out.old out.new result }
 {
     let t = shape_job::run(

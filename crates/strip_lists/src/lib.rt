@@ -20,9 +20,9 @@ pub fn load(
     mirrors: &mut [[f64; 6]],
 ) -> bool
     ensures { Loaded bytes.now (lent volume_bits.old centroid_bits.old weight_bits.old passive.old mirror_bits.old)
-        (record { volumes = volumes.entry.now; centroids = centroids.old; weights = weights.old; passive = passive.old; mirrors = mirrors.old })
+        (record { volumes = volumes.old; centroids = centroids.old; weights = weights.old; passive = passive.old; mirrors = mirrors.old })
         result
-        (record { volumes = volumes.exit.now; centroids = centroids.new; weights = weights.new; passive = passive.new; mirrors = mirrors.new }) }
+        (record { volumes = volumes.new; centroids = centroids.new; weights = weights.new; passive = passive.new; mirrors = mirrors.new }) }
 {
     let answer = strip_read::read(
         bytes,
