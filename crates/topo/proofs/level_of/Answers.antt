@@ -4,15 +4,14 @@ use Rattle.ieee_whole.specs.Whole.{round_half_away}
 use Rattle.topo.proofs.Levels.{level-most}
 use Rattle.topo.proofs.level_of.Goals as goal
 use Rattle.topo.specs.Levels.{level_of}
-use borrow.Author.Rules.{rules}
 use lib.Ieee.{Float, binary64, mul}
 use mathlib.Core.Path.{◌≡◌, ap, ◌∙◌}
 use native.Mathlib.Omega.{arith}
 
 pub overflow_cast-result : goal.overflow_cast-result
 unfolding level_of
-overflow_cast-result c = omega (arith, (c.round_half_away.ensures ∙ ap (λ (y : Float). round_half_away (mul binary64 y (whole64 1000))) c.clamp.ensures), level-most c.args.x)
+overflow_cast-result c = omega (arith, (let h : c.round_half_away.result ≡ level_of c.args.x = c.round_half_away.ensures ∙ ap (λ (y : Float). round_half_away (mul binary64 y (whole64 1000))) c.clamp.ensures in h), level-most c.args.x)
 
 pub returns : goal.returns
 unfolding level_of
-returns c = (c.round_half_away.ensures ∙ ap (λ (y : Float). round_half_away (mul binary64 y (whole64 1000))) c.clamp.ensures)
+returns c = (let h : c.round_half_away.result ≡ level_of c.args.x = c.round_half_away.ensures ∙ ap (λ (y : Float). round_half_away (mul binary64 y (whole64 1000))) c.clamp.ensures in h)
