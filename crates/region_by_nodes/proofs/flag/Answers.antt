@@ -1,6 +1,5 @@
 -- `region_by_nodes::flag` meets its contract: a node that is not there changes nothing. Assumes nothing.
 use Rattle.region_by_nodes.proofs.flag.Goals as goal
-use borrow.Author.Rules.{rules}
 use lib.Seq.{set_out}
 use mathlib.Core.Path.{sym}
 

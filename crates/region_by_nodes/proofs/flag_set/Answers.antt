@@ -1,42 +1,16 @@
 -- `region_by_nodes::flag_set` meets its contract. The invariant: the nodes of the set's triangles passed are flagged. Assumes nothing.
-use Prim.Native.Nat.{◌-◌, ◌≤◌}
 use Rattle.lists.proofs.Laws.{fold_to-none, fold_to-more, choose-true, choose-false}
-use Rattle.lists.specs.Lists.{fold_to, choose}
 use Rattle.region_by_nodes.proofs.flag_set.Goals as goal
 use Rattle.region_by_nodes.specs.Nodes.{in_set}
 use Rattle.region_by_nodes.specs.Steps.{flagged, flagged_set}
-use lib.ListN.{length, get_or}
+use lib.ListN.{get_or}
 use mathlib.Core.List.{[]}
-use mathlib.Core.Path.{◌≡◌, refl, sym, ap, ◌∙◌}
+use mathlib.Core.Path.{refl, sym, ap, ◌∙◌}
 use native.Mathlib.Nat.{le_antisymm}
 use native.Mathlib.Omega.{arith}
 
 pub loop-t-init : goal.loop-t-init
 loop-t-init c = (omega arith, refl, sym (fold_to-none _ _))
-
-pub offset_bounds-tris-t : goal.offset_bounds-tris-t
-offset_bounds-tris-t c = omega arith
-
-pub bounds-tris-t : goal.bounds-tris-t
-bounds-tris-t c = omega arith
-
-pub offset_bounds-surfaces-t : goal.offset_bounds-surfaces-t
-offset_bounds-surfaces-t c = omega arith
-
-pub bounds-surfaces-t : goal.bounds-surfaces-t
-bounds-surfaces-t c = omega arith
-
-pub overflow_add-t : goal.overflow_add-t
-overflow_add-t c = omega arith
-
-pub in_set-requires : goal.in_set-requires
-in_set-requires c = c.requires.1
-
-pub flag_triangle-requires : goal.flag_triangle-requires
-flag_triangle-requires c = tt
-
-pub loop-t-smaller-then-in_set : goal.loop-t-smaller-then-in_set
-loop-t-smaller-then-in_set c = omega arith
 
 pub loop-t-preserved-then-in_set : goal.loop-t-preserved-then-in_set
 unfolding in_set
@@ -44,16 +18,10 @@ loop-t-preserved-then-in_set c = let l = c.loop-t in
     let a = c.args in
     (omega arith, c.flag_triangle.auto.keep ∙ l.invariant.1, c.flag_triangle.ensures ∙ ap (flagged (get_or a.tris.now l.t []) 6) l.invariant.2 ∙ sym (choose-true _ _ _ (sym c.in_set.ensures ∙ c.if-in_set.true)) ∙ fold_to-more _ _ _)
 
-pub loop-t-smaller : goal.loop-t-smaller
-loop-t-smaller c = omega arith
-
 pub loop-t-preserved : goal.loop-t-preserved
 unfolding in_set
 loop-t-preserved c = let l = c.loop-t in
     (omega arith, l.invariant.1, l.invariant.2 ∙ sym (choose-false _ _ _ (sym c.in_set.ensures ∙ c.if-in_set.false)) ∙ fold_to-more _ _ _)
-
-pub shape_of-keep : goal.shape_of-keep
-shape_of-keep c = c.loop-t.invariant.1
 
 pub returns : goal.returns
 unfolding flagged_set

@@ -1,15 +1,12 @@
 -- `region_by_nodes::flag_set` meets its contract. The invariant: the nodes of the set's triangles passed are flagged. Assumes nothing.
 use Prim.Native.Nat.{◌-◌, ◌≤◌}
-use Rattle.lists.proofs.Laws.{fold_to-none, fold_to-more, choose-true, choose-false}
 use Rattle.lists.specs.Lists.{fold_to, choose}
 use Rattle.region_by_nodes.proofs.flag_set.Given as goal
 use Rattle.region_by_nodes.specs.Nodes.{in_set}
-use Rattle.region_by_nodes.specs.Steps.{flagged, flagged_set}
+use Rattle.region_by_nodes.specs.Steps.{flagged}
 use lib.ListN.{length, get_or}
 use mathlib.Core.List.{[]}
-use mathlib.Core.Path.{◌≡◌, refl, sym, ap, ◌∙◌}
-use native.Mathlib.Nat.{le_antisymm}
-use native.Mathlib.Omega.{arith}
+use mathlib.Core.Path.{◌≡◌}
 
 abbrev pub invariant-loop-t : goal.invariant-loop-t
 invariant-loop-t it = (it.t ≤ it.n) × (length it.keep ≡ length it.initial.keep) × (it.keep ≡ fold_to (λ i l. choose (in_set it.surfaces it.starts it.kept it.s i) (flagged (get_or it.tris i []) 6 l) l) it.initial.keep it.t)

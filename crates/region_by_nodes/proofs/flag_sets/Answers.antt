@@ -1,11 +1,8 @@
 -- `region_by_nodes::flag_sets` meets its contract. The invariant: the nodes of the sets passed are flagged. Assumes nothing.
-use Prim.Native.Nat.{◌-◌, ◌≤◌}
 use Rattle.lists.proofs.Laws.{fold_to-none, fold_to-more}
-use Rattle.lists.specs.Lists.{fold_to}
 use Rattle.region_by_nodes.proofs.flag_sets.Goals as goal
 use Rattle.region_by_nodes.specs.Steps.{flagged_set, flagged_sets}
-use lib.ListN.{length}
-use mathlib.Core.Path.{◌≡◌, refl, sym, ap, ◌∙◌}
+use mathlib.Core.Path.{refl, sym, ap, ◌∙◌}
 use native.Mathlib.Nat.{le_antisymm}
 use native.Mathlib.Omega.{arith}
 
@@ -15,19 +12,10 @@ loop-s-init c = (omega arith, refl, sym (fold_to-none _ _))
 pub flag_set-requires : goal.flag_set-requires
 flag_set-requires c = (c.requires.0, omega (arith, c.requires.1, c.loop-s-test.true))
 
-pub overflow_add-s : goal.overflow_add-s
-overflow_add-s c = omega (arith, c.loop-s-test.true)
-
-pub loop-s-smaller : goal.loop-s-smaller
-loop-s-smaller c = omega (arith, c.loop-s-test.true)
-
 pub loop-s-preserved : goal.loop-s-preserved
 loop-s-preserved c = let l = c.loop-s in
     let a = c.args in
     (omega (arith, c.loop-s-test.true), c.flag_set.auto.keep ∙ l.invariant.1, c.flag_set.ensures ∙ ap (flagged_set a.tris.now a.surfaces.now a.starts.now a.kept.now l.s) l.invariant.2 ∙ fold_to-more _ _ _)
-
-pub shape_of-keep : goal.shape_of-keep
-shape_of-keep c = c.loop-s.invariant.1
 
 pub returns : goal.returns
 unfolding flagged_sets

@@ -1,13 +1,9 @@
 -- `region_by_nodes::flag_triangle` meets its contract. The invariant: the nodes passed are flagged. Assumes nothing.
 use Prim.Native.Nat.{◌-◌, ◌≤◌}
-use Rattle.region_by_nodes.proofs.Flags.{flagged-none, flagged-more}
 use Rattle.region_by_nodes.proofs.flag_triangle.Given as goal
 use Rattle.region_by_nodes.specs.Steps.{flagged}
-use borrow.Author.Rules.{rules}
 use lib.ListN.{length}
-use mathlib.Core.Path.{◌≡◌, refl, ◌∙◌}
-use native.Mathlib.Nat.{le_antisymm}
-use native.Mathlib.Omega.{arith}
+use mathlib.Core.Path.{◌≡◌}
 
 abbrev pub invariant-loop-k : goal.invariant-loop-k
 invariant-loop-k l = (l.k ≤ 6) × (length l.keep ≡ length l.initial.keep) × (l.keep ≡ flagged l.tri l.k l.initial.keep)

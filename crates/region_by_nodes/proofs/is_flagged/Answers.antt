@@ -1,6 +1,5 @@
 -- `region_by_nodes::is_flagged` meets its contract: past the end there is no flag. Assumes nothing.
 use Rattle.region_by_nodes.proofs.is_flagged.Goals as goal
-use borrow.Author.Rules.{rules}
 use lib.ListN.{get_or-eq_default}
 use mathlib.Core.Bool.{false}
 use mathlib.Core.Path.{sym}
