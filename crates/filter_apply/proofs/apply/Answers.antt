@@ -1,12 +1,11 @@
 -- `filter_apply::apply` meets its contract. The invariant: the rows passed are overwritten by their sums. Assumes nothing.
-use Prim.Native.Nat.{◌+◌, ◌-◌, ◌≤◌}
+use Prim.Native.Nat.{◌+◌}
 use Rattle.filter_apply.proofs.apply.Goals as goal
 use Rattle.filter_table.specs.Table.{row_sum, applied}
 use Rattle.lists.proofs.Laws.{overwrite-none, overwrite-more, overwrite-all}
-use Rattle.lists.specs.Lists.{overwrite}
 use borrow.Author.Rules.{rules}
-use lib.ListN.{length, get_or}
-use mathlib.Core.Path.{◌≡◌, refl, sym}
+use lib.ListN.{get_or}
+use mathlib.Core.Path.{refl, sym}
 use native.Mathlib.Nat.{le_antisymm}
 use native.Mathlib.Omega.{arith}
 

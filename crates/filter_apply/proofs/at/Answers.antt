@@ -2,7 +2,6 @@
 use Rattle.filter_apply.proofs.at.Goals as goal
 use Rattle.lists.proofs.Laws.{get_d_any}
 use Rattle.lists.specs.Lists.{zero64}
-use borrow.Author.Rules.{rules}
 use lib.Ieee.{nan}
 use lib.ListN.{get_or-eq_default}
 use mathlib.Core.Path.{sym}

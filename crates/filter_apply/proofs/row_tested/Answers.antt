@@ -1,6 +1,6 @@
 -- `filter_apply::row_tested` meets its contract. The invariant of both loops: what is added up is the sum over the places passed. A row that is not empty is
 -- within both lists. Assumes nothing.
-use Prim.Native.Nat.{◌+◌, ◌-◌, ◌≤◌, ◌<◌}
+use Prim.Native.Nat.{◌+◌, ◌<◌}
 use Rattle.filter_apply.proofs.row_tested.Goals as goal
 use Rattle.filter_apply.specs.Steps.{plus_product}
 use Rattle.filter_table.proofs.Laws.{row_end-from, row_end-room, four-turns}
@@ -10,7 +10,7 @@ use Rattle.lists.specs.Lists.{zero64, fold_over, sum_over}
 use borrow.Author.Rules.{rules}
 use lib.Ieee.{Float}
 use lib.ListN.{length}
-use mathlib.Core.Path.{◌≡◌, sym, ap, ◌∙◌}
+use mathlib.Core.Path.{sym, ap, ◌∙◌}
 use native.Mathlib.Nat.{le_antisymm}
 use native.Mathlib.Omega.{arith}
 

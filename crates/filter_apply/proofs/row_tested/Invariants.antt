@@ -1,18 +1,10 @@
 -- `filter_apply::row_tested` meets its contract. The invariant of both loops: what is added up is the sum over the places passed. A row that is not empty is
 -- within both lists. Assumes nothing.
-use Prim.Native.Nat.{◌+◌, ◌-◌, ◌≤◌, ◌<◌}
+use Prim.Native.Nat.{◌-◌, ◌≤◌}
 use Rattle.filter_apply.proofs.row_tested.Given as goal
 use Rattle.filter_apply.specs.Steps.{plus_product}
-use Rattle.filter_table.proofs.Laws.{row_end-from, row_end-room, four-turns}
-use Rattle.filter_table.specs.Table.{product, row_sum}
-use Rattle.lists.proofs.Laws.{fold_over-none, fold_over-more, fold_over_join}
-use Rattle.lists.specs.Lists.{zero64, fold_over, sum_over}
-use borrow.Author.Rules.{rules}
-use lib.Ieee.{Float}
-use lib.ListN.{length}
-use mathlib.Core.Path.{◌≡◌, sym, ap, ◌∙◌}
-use native.Mathlib.Nat.{le_antisymm}
-use native.Mathlib.Omega.{arith}
+use Rattle.lists.specs.Lists.{zero64, fold_over}
+use mathlib.Core.Path.{◌≡◌}
 
 abbrev pub invariant-loop-k : goal.invariant-loop-k
 invariant-loop-k l = (l.from ≤ l.k) × (l.k ≤ l.end) × (l.t ≡ fold_over (plus_product l.near l.coef l.x) zero64 l.from l.k)

@@ -3,7 +3,6 @@ use Prim.Native.Nat.{ℕ, ◌<◌}
 use Rattle.filter_apply.proofs.sum_in.Goals as goal
 use Rattle.lists.proofs.Laws.{get_d_any}
 use Rattle.lists.specs.Lists.{zero64}
-use borrow.Author.Rules.{rules}
 use lib.Ieee.{nan}
 use lib.ListN.{length, get_or}
 use mathlib.Core.Path.{◌≡◌}
