@@ -3,7 +3,6 @@ use Prim.Native.Nat.{◌+◌}
 use Rattle.filter_back.proofs.add_four.Goals as goal
 use Rattle.filter_table.specs.Table.{add_to}
 use Rattle.lists.proofs.Laws.{both}
-use borrow.Author.Rules.{rules}
 use borrow.Author.Tests.{ltb-true}
 use native.Mathlib.Omega.{arith}
 

@@ -1,6 +1,5 @@
 -- `filter_back::add_to` meets its contract. Where the place is past the end, a store changes nothing. Assumes nothing.
 use Rattle.filter_back.proofs.add_to.Goals as goal
-use borrow.Author.Rules.{rules}
 use lib.Seq.{set_out}
 use mathlib.Core.Path.{sym}
 

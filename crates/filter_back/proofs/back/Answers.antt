@@ -1,13 +1,12 @@
 -- `filter_back::back` meets its contract. The invariant: the shares of the rows passed are added. Assumes nothing.
-use Prim.Native.Nat.{◌+◌, ◌-◌, ◌≤◌}
 use Rattle.filter_back.proofs.back.Goals as goal
-use Rattle.filter_table.specs.Table.{row_share, backed}
+use Rattle.filter_table.specs.Table.{backed}
 use Rattle.lists.proofs.Laws.{fold_to-none, fold_to-more, get_d_any, tabulate_throughout}
-use Rattle.lists.specs.Lists.{fold_to, zero64}
+use Rattle.lists.specs.Lists.{zero64}
 use borrow.Author.Rules.{rules}
 use lib.Ieee.{nan}
-use lib.ListN.{length, get_or}
-use mathlib.Core.Path.{◌≡◌, refl, sym}
+use lib.ListN.{length}
+use mathlib.Core.Path.{refl, sym}
 use native.Mathlib.Nat.{le_antisymm}
 use native.Mathlib.Omega.{arith}
 

@@ -1,6 +1,5 @@
 -- `filter_back::four_to` meets its contract: four calls, one after another. Assumes nothing.
 use Rattle.filter_back.proofs.four_to.Goals as goal
-use borrow.Author.Rules.{rules}
 
 pub returns : goal.returns
 returns c = rw (c.add_to-4.ensures, c.add_to-3.ensures, c.add_to-2.ensures, c.add_to.ensures)

@@ -1,17 +1,10 @@
 -- `filter_back::share` meets its contract. The invariant of both loops: the places passed are added. A row that is not empty is within both lists. Assumes nothing.
-use Prim.Native.Nat.{◌+◌, ◌-◌, ◌≤◌, ◌<◌}
+use Prim.Native.Nat.{◌-◌, ◌≤◌}
 use Rattle.filter_back.proofs.share.Given as goal
-use Rattle.filter_table.proofs.Laws.{row_end-from, row_end-room, four-turns}
-use Rattle.filter_table.specs.Table.{add_to, row_share}
-use Rattle.lists.proofs.Laws.{fold_over-none, fold_over-more, fold_over_join}
+use Rattle.filter_table.specs.Table.{add_to}
 use Rattle.lists.specs.Lists.{fold_over}
-use borrow.Author.Rules.{rules}
-use lib.Ieee.{Float}
 use lib.ListN.{length}
-use mathlib.Core.List.{List}
-use mathlib.Core.Path.{◌≡◌, refl, sym, ◌∙◌, ap}
-use native.Mathlib.Nat.{le_antisymm}
-use native.Mathlib.Omega.{arith}
+use mathlib.Core.Path.{◌≡◌}
 
 abbrev pub invariant-loop-k : goal.invariant-loop-k
 invariant-loop-k l = (l.from ≤ l.k) × (l.k ≤ l.end) × (length l.out ≡ length l.initial.out) × (l.out ≡ fold_over (add_to l.near l.coef l.v) l.initial.out l.from l.k)
