@@ -1,7 +1,7 @@
 -- Laws of texts laid over a list one after the other, and of the numbers in them. Assumes nothing.
 use mathlib.Core.Path.{◌≡◌, refl, sym, ap, subst, ◌∙◌}
 use mathlib.Core.Bool.{Bool, true, false}
-use mathlib.Core.List.{List, [], ◌∷◌, ◌++◌, append_nil, append_assoc}
+use mathlib.Core.List.{List, [], ◌∷◌, ◌++◌, append-nil, append_assoc}
 use Prim.Native.Nat.{ℕ, zero, suc, ◌+◌, ◌-◌, ◌/◌, ◌%◌, ◌≤◌, ◌<◌, min}
 use native.Mathlib.Numerals.{add-one}
 use native.Mathlib.Omega.{arith}
@@ -107,7 +107,7 @@ lines-suc : {A : Type 0} (line : ℕ → A → List ℕ) (k i : ℕ) (l : List A
     → lines_from line k (take (suc i) l) ≡ lines_from line k (take i l) ++ line (k + i) (get_or l i d)
 unfolding lines_from
 lines-suc line k i [] d h = absurd (omega arith)
-lines-suc line k zero (x ∷ l) d h = append_nil (line k x) ∙ ap (λ (j : ℕ). line j x) (omega arith)
+lines-suc line k zero (x ∷ l) d h = append-nil (line k x) ∙ ap (λ (j : ℕ). line j x) (omega arith)
 lines-suc line k (suc i) (x ∷ l) d h =
     ap (λ (t : List ℕ). line k x ++ t) (lines-suc line (suc k) i l d (omega arith) ∙ ap (λ (j : ℕ). lines_from line (suc k) (take i l) ++ line j (get_or l i d)) (omega arith))
     ∙ sym (append_assoc (line k x) (lines_from line (suc k) (take i l)) (line (k + suc i) (get_or l i d)))

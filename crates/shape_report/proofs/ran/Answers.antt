@@ -2,7 +2,6 @@
 use Rattle.shape_report.proofs.Laws.{then}
 use Rattle.shape_report.proofs.ran.Goals as goal
 use Rattle.shape_report.specs.Report.{text_of}
-use borrow.Author.Rules.{rules}
 
 pub returns : goal.returns
 unfolding text_of

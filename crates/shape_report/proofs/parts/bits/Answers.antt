@@ -2,7 +2,6 @@
 use Rattle.shape_report.proofs.Laws.{retext}
 use Rattle.shape_report.proofs.parts.bits.Goals as goal
 use Rattle.shape_report.specs.Report.{hex as text}
-use borrow.Author.Rules.{rules}
 use mathlib.Core.Path.{ap}
 
 pub returns : goal.returns

@@ -1,7 +1,6 @@
 -- `byte` meets its contract. Assumes nothing.
 use Rattle.shape_report.proofs.parts.byte.Goals as goal
 use Rattle.shape_report.specs.Steps.{laid}
-use borrow.Author.Rules.{rules}
 use lib.Seq.{set_out}
 use mathlib.Core.Path.{refl, sym}
 use native.Mathlib.Omega.{arith}

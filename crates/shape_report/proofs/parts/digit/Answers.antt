@@ -1,9 +1,6 @@
 -- `digit` meets its contract. Assumes nothing.
 use Rattle.lists.proofs.Laws.{choose-true, choose-false}
 use Rattle.shape_report.proofs.parts.digit.Goals as goal
-use Rattle.shape_report.proofs.parts.digit.Lts as lts
-use Rattle.shape_report.proofs.parts.digit.Reads as reads
-use borrow.Author.Rules.{rules}
 use borrow.Author.Tests.{lt-ltb, le-ltb}
 use mathlib.Core.Path.{sym}
 

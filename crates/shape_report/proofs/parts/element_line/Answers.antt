@@ -2,11 +2,6 @@
 use Rattle.shape_report.proofs.Laws.{then}
 use Rattle.shape_report.proofs.parts.element_line.Goals as goal
 use Rattle.shape_report.specs.Report.{ascii, element_line}
-use borrow.Author.Rules.{rules}
-
--- UNKNOWN
--- slice-aggregate-words : tie.Need-slice-aggregate-words
--- slice-aggregate-words c = search rules
 
 pub returns : goal.returns
 unfolding ascii element_line

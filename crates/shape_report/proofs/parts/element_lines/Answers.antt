@@ -1,12 +1,11 @@
 -- `element_lines` meets its contract: what is written is the first lines. Assumes nothing.
-use Prim.Native.Nat.{ℕ, ◌+◌, ◌-◌, ◌≤◌}
+use Prim.Native.Nat.{ℕ, ◌+◌}
 use Rattle.shape_report.proofs.Laws.{then, retext, within, same-long, nothing, lines_more}
 use Rattle.shape_report.proofs.parts.element_lines.Goals as goal
 use Rattle.shape_report.specs.Report.{lines_from, element_line}
-use Rattle.shape_report.specs.Steps.{Wrote}
 use borrow.Author.Rules.{rules}
 use lib.Ieee.{nan}
-use lib.ListN.{length, take, get_or}
+use lib.ListN.{take, get_or}
 use lib.Seq.{take_all}
 use mathlib.Core.List.{◌++◌}
 use mathlib.Core.Path.{◌≡◌, sym, ap, ◌∙◌}

@@ -2,11 +2,6 @@
 use Rattle.shape_report.proofs.Laws.{then}
 use Rattle.shape_report.proofs.parts.next_bits.Goals as goal
 use Rattle.shape_report.specs.Report.{ascii}
-use borrow.Author.Rules.{rules}
-
--- UNKNOWN
--- slice-aggregate-words : tie.Need-slice-aggregate-words
--- slice-aggregate-words c = search rules
 
 pub returns : goal.returns
 unfolding ascii

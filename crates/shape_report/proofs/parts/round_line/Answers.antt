@@ -2,20 +2,7 @@
 use Rattle.shape_report.proofs.Laws.{then, within, same-long}
 use Rattle.shape_report.proofs.parts.round_line.Goals as goal
 use Rattle.shape_report.specs.Report.{ascii, round_line}
-use borrow.Author.Rules.{rules}
 use mathlib.Core.Path.{◌∙◌}
-
--- UNKNOWN
--- slice-aggregate-words : tie.Need-slice-aggregate-words
--- slice-aggregate-words c = search rules
-
--- UNKNOWN
--- slice-aggregate-words-2 : tie.Need-slice-aggregate-words-2
--- slice-aggregate-words-2 c = search rules
-
--- UNKNOWN
--- slice-aggregate-words-3 : tie.Need-slice-aggregate-words-3
--- slice-aggregate-words-3 c = search rules
 
 pub words-h-requires : goal.words-h-requires
 words-h-requires c = within c.next_bits-g.ensures

@@ -1,9 +1,8 @@
 -- `round_lines` meets its contract: what is written is the first lines. Assumes nothing.
-use Prim.Native.Nat.{ℕ, ◌-◌, ◌≤◌, min}
+use Prim.Native.Nat.{ℕ, min}
 use Rattle.shape_report.proofs.Laws.{then, retext, within, same-long, nothing, lines_more, take-most}
 use Rattle.shape_report.proofs.parts.round_lines.Goals as goal
 use Rattle.shape_report.specs.Report.{lines_from, round_line}
-use Rattle.shape_report.specs.Steps.{Wrote}
 use borrow.Author.Rules.{rules}
 use lib.ListN.{take}
 use mathlib.Core.Path.{◌≡◌, sym, ap, ◌∙◌}

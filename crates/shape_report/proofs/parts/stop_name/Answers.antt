@@ -3,28 +3,7 @@ use Rattle.shape_report.proofs.Laws.{retext}
 use Rattle.shape_report.proofs.parts.stop_name.Goals as goal
 use Rattle.shape_report.specs.Report.{ascii, stop_name}
 use Rattle.topo.specs.declared.Stop.{Stop}
-use borrow.Author.Rules.{rules}
 use mathlib.Core.Path.{ap, sym}
-
--- UNKNOWN
--- slice-aggregate-words : tie.Need-slice-aggregate-words
--- slice-aggregate-words c = search rules
-
--- UNKNOWN
--- slice-aggregate-words-2 : tie.Need-slice-aggregate-words-2
--- slice-aggregate-words-2 c = search rules
-
--- UNKNOWN
--- slice-aggregate-words-3 : tie.Need-slice-aggregate-words-3
--- slice-aggregate-words-3 c = search rules
-
--- UNKNOWN
--- slice-aggregate-words-4 : tie.Need-slice-aggregate-words-4
--- slice-aggregate-words-4 c = search rules
-
--- UNKNOWN
--- slice-aggregate-words-5 : tie.Need-slice-aggregate-words-5
--- slice-aggregate-words-5 c = search rules
 
 pub returns-in-Settled : goal.returns-in-Settled
 unfolding ascii

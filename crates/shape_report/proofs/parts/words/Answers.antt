@@ -1,10 +1,9 @@
 -- `words` meets its contract: what is written is the text's first places. Assumes nothing.
-use Prim.Native.Nat.{ℕ, ◌-◌, ◌≤◌}
+use Prim.Native.Nat.{ℕ}
 use Rattle.shape_report.proofs.Laws.{then, retext, within, same-long, nothing}
 use Rattle.shape_report.proofs.parts.words.Goals as goal
-use Rattle.shape_report.specs.Steps.{Wrote}
 use borrow.Author.Rules.{rules}
-use lib.ListN.{length, take}
+use lib.ListN.{take}
 use lib.Seq.{take-suc, take_all}
 use mathlib.Core.Path.{sym, ap, ◌∙◌}
 use native.Mathlib.Numerals.{add-one}
