@@ -1,7 +1,7 @@
 -- The greatest level at which a test holds, and the way from a stiffness to a level and back. Assumes nothing.
 use mathlib.Core.Path.{◌≡◌, refl, sym, ap, subst, ◌∙◌}
 use mathlib.Core.Bool.{Bool, true, false, beq, not, ◌&&◌, ◌||◌}
-use mathlib.Core.Logic.{◌⊎◌, inl, inr, ⊎_elim}
+use mathlib.Core.Logic.{⊎_elim}
 use Prim.Native.Nat.{ℕ, zero, suc, ◌*◌, ◌≤◌, ◌<◌}
 use native.Mathlib.Nat.{not-suc-le-zero, le_of_suc-le-suc, eq-or-lt_of_le}
 use native.Mathlib.Omega.{arith}
@@ -9,13 +9,11 @@ use lib.Dec.{T, eqb}
 use lib.Ieee.{Float, nan, inf, fin, up, down, level as levels, is_nan, lt, le, eq}
 use lib.Ieee.Bits.{is_true}
 use borrow.Author.Tests.{eqb-true, eq-eqb}
-use Rattle.lists.specs.Lists.{choose}
 use Rattle.lists.proofs.Bools.{never, and-true}
 use Rattle.lists.proofs.Laws.{choose-true, choose-false, both}
 use Rattle.ieee.proofs.Basic.{holds}
 use Rattle.ieee.proofs.Order.{le_transitive, le-number, le_not_lt}
 use Rattle.ieee.proofs.Bounds.{not-lt-le}
-use Rattle.topo_moduli.specs.declared.Level.{Level}
 use Rattle.topo_moduli.specs.declared.Level.TheVariants.{At, None}
 use Rattle.topo_moduli.specs.Moduli.{modulus_at, greatest, inside, level_with, level_below, GreatestBelow, Back}
 use Rattle.topo_moduli.proofs.Moduli.{modulus-number, at_least, rising}

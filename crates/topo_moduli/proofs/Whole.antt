@@ -3,7 +3,7 @@ use mathlib.Core.Bool.{Bool, true, ◌&&◌}
 use mathlib.Core.List.{List, [], ◌∷◌}
 use Prim.Native.Nat.{ℕ, zero, suc, ◌+◌, ◌<◌}
 use native.Mathlib.Nat.{add-zero, zero-add, add-suc, suc-add, le_of_suc-le-suc, not-suc-le-zero}
-use mathlib.Core.Path.{◌≡◌, ◌∙◌, subst, sym}
+use mathlib.Core.Path.{◌∙◌, subst, sym}
 use lib.Dec.{T}
 use lib.Ieee.Fits.{and_l, and_r}
 use lib.ListN.{length, get_or}

@@ -1,9 +1,9 @@
 -- `topo_moduli::level_below` meets its contract. The loop's invariant: the modulus at `low` is not above x, and those from `high` on are. Assumes nothing.
-use Prim.Native.Nat.{ℕ, ◌+◌, ◌-◌, ◌/◌, ◌≤◌, ◌<◌}
+use Prim.Native.Nat.{◌+◌, ◌-◌, ◌/◌}
 use Rattle.lists.proofs.Laws.{both}
 use Rattle.topo_moduli.proofs.Levels.{ends, above, below-is, below_none}
 use Rattle.topo_moduli.proofs.level_below.Goals as goal
-use Rattle.topo_moduli.specs.Moduli.{modulus_at, inside}
+use Rattle.topo_moduli.specs.Moduli.{inside}
 use lib.Ieee.{Float, le}
 use mathlib.Core.Bool.{true, false}
 use mathlib.Core.Path.{◌≡◌, sym, ap, ◌∙◌}
@@ -20,7 +20,7 @@ returns-then-outside c = below_none c.args.x (ends c.args.x c.modulus_at.result 
 
 pub loop-high-init : goal.loop-high-init
 unfolding inside
-loop-high-init c = (omega arith, omega arith, (both _ _ (ends c.args.x c.modulus_at.result c.modulus_at-2.result true c.modulus_at.ensures c.modulus_at-2.ensures c.if-outside.false-raw)).0, λ k a b. absurd (omega arith))
+loop-high-init c = (omega arith, omega arith, (both _ _ ((let h : inside c.args.x ≡ true = ends c.args.x c.modulus_at.result c.modulus_at-2.result true c.modulus_at.ensures c.modulus_at-2.ensures c.if-outside.false-raw in h))).0, λ k a b. absurd (omega arith))
 
 pub overflow_sub-high : goal.overflow_sub-high
 overflow_sub-high c = omega arith
@@ -50,4 +50,4 @@ pub overflow_cast-level : goal.overflow_cast-level
 overflow_cast-level c = omega arith
 
 pub returns : goal.returns
-returns c = below-is c.args.x c.loop-high.low (ends c.args.x c.modulus_at.result c.modulus_at-2.result true c.modulus_at.ensures c.modulus_at-2.ensures c.if-outside.false-raw) (omega arith) c.loop-high.invariant.2 (λ k a b. c.loop-high.invariant.3 k (omega arith) b)
+returns c = below-is c.args.x c.loop-high.low ((let h : inside c.args.x ≡ true = ends c.args.x c.modulus_at.result c.modulus_at-2.result true c.modulus_at.ensures c.modulus_at-2.ensures c.if-outside.false-raw in h)) (omega arith) c.loop-high.invariant.2 (λ k a b. c.loop-high.invariant.3 k (omega arith) b)

@@ -4,7 +4,6 @@ use Rattle.topo_moduli.proofs.Levels.{greatest-below, with-is, with_none, with-o
 use Rattle.topo_moduli.proofs.level_with.Goals as goal
 use Rattle.topo_moduli.specs.Moduli.{level_below}
 use Rattle.topo_moduli.specs.declared.Level.TheVariants.{At}
-use borrow.Author.Rules.{rules}
 use lib.Ieee.{Float, eq}
 use mathlib.Core.Path.{◌≡◌, sym, ap, ◌∙◌}
 use native.Mathlib.Omega.{arith}

@@ -1,7 +1,6 @@
 -- `topo_moduli::numbers::numbers` meets its contract. Assumes nothing.
 use Rattle.topo_moduli.proofs.numbers.numbers.Goals as goal
 use Rattle.topo_moduli.specs.Moduli.{numbers_of}
-use borrow.Author.Rules.{rules}
 use mathlib.Core.Path.{sym, ap}
 
 pub returns-in-At : goal.returns-in-At

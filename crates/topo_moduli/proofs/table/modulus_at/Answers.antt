@@ -4,10 +4,6 @@ use Rattle.topo_moduli.proofs.Patterns.{patterns}
 use Rattle.topo_moduli.proofs.table.modulus_at.Goals as goal
 use native.Mathlib.Omega.{arith}
 
--- UNKNOWN
--- array-read-result : tie.Need-array-read-result
--- array-read-result c = c.requires
-
 pub offset_bounds-level : goal.offset_bounds-level
 offset_bounds-level c = omega arith
 
