@@ -1,6 +1,5 @@
 -- `plane` meets its contract. Assumes nothing.
 use Rattle.strip_floats.proofs.plane.Goals as goal
-use borrow.Author.Rules.{rules}
 use mathlib.Core.List.{[], ◌∷◌}
 
 pub returns : goal.returns

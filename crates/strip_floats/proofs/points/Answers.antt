@@ -1,13 +1,8 @@
 -- `points` meets its contract. The invariant: the places passed are overwritten. Assumes nothing.
-use Prim.Native.Nat.{◌-◌, ◌≤◌}
 use Rattle.lists.proofs.Laws.{overwrite-none, overwrite-more}
-use Rattle.lists.specs.Lists.{overwrite}
 use Rattle.strip_floats.proofs.points.Goals as goal
-use Rattle.strip_floats.specs.Floats.{point_of}
 use borrow.Author.Rules.{rules}
-use lib.ListN.{length, get_or}
-use mathlib.Core.List.{[]}
-use mathlib.Core.Path.{◌≡◌, refl, sym}
+use mathlib.Core.Path.{refl, sym}
 use native.Mathlib.Nat.{le_antisymm}
 use native.Mathlib.Omega.{arith}
 
