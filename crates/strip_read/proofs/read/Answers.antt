@@ -4,7 +4,6 @@ use Rattle.strip.specs.Strip.{reading, short, lent}
 use Rattle.strip.specs.declared.Answer.TheVariants.{Read}
 use Rattle.strip_read.proofs.Readings.{all-filled, malformed, too_short, all_read, roomy}
 use Rattle.strip_read.proofs.read.Goals as goal
-use borrow.Author.Rules.{rules}
 use mathlib.Core.Path.{sym, ap, ◌∙◌}
 use native.Mathlib.Omega.{arith}
 

@@ -1,12 +1,8 @@
 -- `fill::elements` meets its contract. The invariant: in each list the places passed are overwritten. Assumes nothing.
-use Prim.Native.Nat.{◌+◌, ◌*◌, ◌-◌, ◌≤◌}
 use Rattle.lists.proofs.Laws.{overwrite-none, overwrite-more}
-use Rattle.lists.specs.Lists.{overwrite}
-use Rattle.strip.specs.Strip.{number_at, point_at, flag_at}
 use Rattle.strip_read.proofs.fill.elements.Goals as goal
 use borrow.Author.Rules.{rules}
-use lib.ListN.{length}
-use mathlib.Core.Path.{◌≡◌, refl, sym}
+use mathlib.Core.Path.{refl, sym}
 use native.Mathlib.Nat.{le_antisymm}
 use native.Mathlib.Omega.{arith}
 

@@ -1,14 +1,10 @@
 -- `fill::elements` meets its contract. The invariant: in each list the places passed are overwritten. Assumes nothing.
 use Prim.Native.Nat.{◌+◌, ◌*◌, ◌-◌, ◌≤◌}
-use Rattle.lists.proofs.Laws.{overwrite-none, overwrite-more}
 use Rattle.lists.specs.Lists.{overwrite}
 use Rattle.strip.specs.Strip.{number_at, point_at, flag_at}
 use Rattle.strip_read.proofs.fill.elements.Given as goal
-use borrow.Author.Rules.{rules}
 use lib.ListN.{length}
-use mathlib.Core.Path.{◌≡◌, refl, sym}
-use native.Mathlib.Nat.{le_antisymm}
-use native.Mathlib.Omega.{arith}
+use mathlib.Core.Path.{◌≡◌}
 
 abbrev pub invariant-loop-e : goal.invariant-loop-e
 invariant-loop-e l = (l.e ≤ l.n) × (length l.volumes ≡ length l.initial.volumes) × (length l.centroids ≡ length l.initial.centroids) × (length l.weights ≡ length l.initial.weights) × (length l.passive ≡ length l.initial.passive)

@@ -1,12 +1,8 @@
 -- `fill::mirrors` meets its contract. The invariant: the places passed are overwritten. Assumes nothing.
-use Prim.Native.Nat.{◌-◌, ◌≤◌}
 use Rattle.lists.proofs.Laws.{overwrite-none, overwrite-more}
-use Rattle.lists.specs.Lists.{overwrite}
-use Rattle.strip.specs.Strip.{plane_at, mirror_at}
 use Rattle.strip_read.proofs.fill.mirrors.Goals as goal
 use borrow.Author.Rules.{rules}
-use lib.ListN.{length}
-use mathlib.Core.Path.{◌≡◌, refl, sym}
+use mathlib.Core.Path.{refl, sym}
 use native.Mathlib.Nat.{le_antisymm}
 use native.Mathlib.Omega.{arith}
 

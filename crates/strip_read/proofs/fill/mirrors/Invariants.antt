@@ -1,14 +1,10 @@
 -- `fill::mirrors` meets its contract. The invariant: the places passed are overwritten. Assumes nothing.
 use Prim.Native.Nat.{◌-◌, ◌≤◌}
-use Rattle.lists.proofs.Laws.{overwrite-none, overwrite-more}
 use Rattle.lists.specs.Lists.{overwrite}
 use Rattle.strip.specs.Strip.{plane_at, mirror_at}
 use Rattle.strip_read.proofs.fill.mirrors.Given as goal
-use borrow.Author.Rules.{rules}
 use lib.ListN.{length}
-use mathlib.Core.Path.{◌≡◌, refl, sym}
-use native.Mathlib.Nat.{le_antisymm}
-use native.Mathlib.Omega.{arith}
+use mathlib.Core.Path.{◌≡◌}
 
 abbrev pub invariant-loop-i : goal.invariant-loop-i
 invariant-loop-i l = (l.i ≤ l.k) × (length l.to ≡ length l.initial.to) × (l.to ≡ overwrite (λ j. plane_at l.bytes (mirror_at j)) l.i l.initial.to)

@@ -1,7 +1,6 @@
 -- `fill::plane_at` meets its contract: its six numbers are the definition's. Assumes nothing.
 use Rattle.strip.specs.Strip.{plane_at}
 use Rattle.strip_read.proofs.fill.plane_at.Goals as goal
-use borrow.Author.Rules.{rules}
 
 pub returns : goal.returns
 unfolding plane_at

@@ -1,7 +1,6 @@
 -- `fill::point_at` meets its contract: its three numbers are the definition's. Assumes nothing.
 use Rattle.strip.specs.Strip.{point_at}
 use Rattle.strip_read.proofs.fill.point_at.Goals as goal
-use borrow.Author.Rules.{rules}
 
 pub returns : goal.returns
 unfolding point_at
