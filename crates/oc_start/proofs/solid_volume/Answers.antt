@@ -1,14 +1,9 @@
 -- `oc_start::solid_volume` meets its contract: what is added up is the fold over the places passed. Assumes nothing.
-use Prim.Native.Nat.{◌-◌, ◌≤◌}
 use Rattle.lists.proofs.Laws.{fold_to-none, fold_to-more}
-use Rattle.lists.specs.Lists.{fold_to, choose, zero64}
 use Rattle.oc_start.proofs.solid_volume.Goals as goal
 use Rattle.oc_start.specs.Start.{solid_volume}
 use borrow.Author.Rules.{rules}
-use lib.Ieee.{nan, binary64, add}
-use lib.ListN.{get_or}
-use mathlib.Core.Bool.{false}
-use mathlib.Core.Path.{◌≡◌, sym}
+use mathlib.Core.Path.{sym}
 use native.Mathlib.Nat.{le_antisymm}
 
 pub loop-i-init : goal.loop-i-init

@@ -1,15 +1,11 @@
 -- `oc_start::solid_volume` meets its contract: what is added up is the fold over the places passed. Assumes nothing.
 use Prim.Native.Nat.{◌-◌, ◌≤◌}
-use Rattle.lists.proofs.Laws.{fold_to-none, fold_to-more}
 use Rattle.lists.specs.Lists.{fold_to, choose, zero64}
 use Rattle.oc_start.proofs.solid_volume.Given as goal
-use Rattle.oc_start.specs.Start.{solid_volume}
-use borrow.Author.Rules.{rules}
 use lib.Ieee.{nan, binary64, add}
 use lib.ListN.{get_or}
 use mathlib.Core.Bool.{false}
-use mathlib.Core.Path.{◌≡◌, sym}
-use native.Mathlib.Nat.{le_antisymm}
+use mathlib.Core.Path.{◌≡◌}
 
 abbrev pub invariant-loop-i : goal.invariant-loop-i
 invariant-loop-i l = (l.i ≤ l.n) × (l.t ≡ fold_to (λ k t. choose (get_or l.passive k false) (add binary64 t (get_or l.volumes k nan)) t) zero64 l.i)
