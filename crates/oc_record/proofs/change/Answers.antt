@@ -1,14 +1,9 @@
 -- `oc_record::change` meets its contract: the most so far is the fold over the places passed. Assumes nothing.
-use Prim.Native.Nat.{◌-◌, ◌≤◌}
-use Rattle.ieee.specs.Basic.{abs_of, max_of}
 use Rattle.lists.proofs.Laws.{fold_to-none, fold_to-more}
-use Rattle.lists.specs.Lists.{fold_to, zero64}
 use Rattle.oc_record.proofs.change.Goals as goal
 use Rattle.oc_record.specs.Record.{change_of}
 use borrow.Author.Rules.{rules}
-use lib.Ieee.{nan, binary64, sub}
-use lib.ListN.{get_or}
-use mathlib.Core.Path.{◌≡◌, sym}
+use mathlib.Core.Path.{sym}
 use native.Mathlib.Nat.{le_antisymm}
 
 pub loop-i-init : goal.loop-i-init

@@ -1,13 +1,9 @@
 -- `oc_record::dot` meets its contract: what is added up is the sum of the places passed. Assumes nothing.
-use Prim.Native.Nat.{◌-◌, ◌≤◌}
 use Rattle.lists.proofs.Laws.{sum_to-none, sum_to-more}
-use Rattle.lists.specs.Lists.{sum_to}
 use Rattle.oc_record.proofs.dot.Goals as goal
 use Rattle.oc_record.specs.Record.{dot}
 use borrow.Author.Rules.{rules}
-use lib.Ieee.{nan, binary64, mul}
-use lib.ListN.{get_or}
-use mathlib.Core.Path.{◌≡◌, sym}
+use mathlib.Core.Path.{sym}
 use native.Mathlib.Nat.{le_antisymm}
 
 pub loop-i-init : goal.loop-i-init

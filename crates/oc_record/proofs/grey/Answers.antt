@@ -1,14 +1,9 @@
 -- `oc_record::grey` meets its contract: what is added up is the sum of the places passed. Assumes nothing.
-use Prim.Native.Nat.{◌-◌, ◌≤◌}
-use Rattle.ieee.specs.Basic.{one64}
 use Rattle.lists.proofs.Laws.{sum_to-none, sum_to-more}
-use Rattle.lists.specs.Lists.{sum_to}
 use Rattle.oc_record.proofs.grey.Goals as goal
-use Rattle.oc_record.specs.Record.{four64, grey_of}
+use Rattle.oc_record.specs.Record.{grey_of}
 use borrow.Author.Rules.{rules}
-use lib.Ieee.{nan, binary64, sub, mul}
-use lib.ListN.{get_or}
-use mathlib.Core.Path.{◌≡◌, sym}
+use mathlib.Core.Path.{sym}
 use native.Mathlib.Nat.{le_antisymm}
 
 pub loop-i-init : goal.loop-i-init

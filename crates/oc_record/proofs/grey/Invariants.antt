@@ -1,15 +1,12 @@
 -- `oc_record::grey` meets its contract: what is added up is the sum of the places passed. Assumes nothing.
 use Prim.Native.Nat.{◌-◌, ◌≤◌}
 use Rattle.ieee.specs.Basic.{one64}
-use Rattle.lists.proofs.Laws.{sum_to-none, sum_to-more}
 use Rattle.lists.specs.Lists.{sum_to}
 use Rattle.oc_record.proofs.grey.Given as goal
-use Rattle.oc_record.specs.Record.{four64, grey_of}
-use borrow.Author.Rules.{rules}
+use Rattle.oc_record.specs.Record.{four64}
 use lib.Ieee.{nan, binary64, sub, mul}
 use lib.ListN.{get_or}
-use mathlib.Core.Path.{◌≡◌, sym}
-use native.Mathlib.Nat.{le_antisymm}
+use mathlib.Core.Path.{◌≡◌}
 
 abbrev pub invariant-loop-i : goal.invariant-loop-i
 invariant-loop-i l = (l.i ≤ l.n) × (l.t ≡ sum_to (λ k. mul binary64 (mul binary64 (mul binary64 four64 (get_or l.density k nan)) (sub binary64 one64 (get_or l.density k nan))) (get_or l.free k nan)) l.i)

@@ -1,15 +1,9 @@
 -- `oc_record::least` meets its contract: the least so far is the fold over the places passed. Assumes nothing.
-use Prim.Native.Nat.{◌-◌, ◌≤◌}
-use Rattle.ieee.specs.Basic.{one64, min_of}
 use Rattle.lists.proofs.Laws.{fold_to-none, fold_to-more}
-use Rattle.lists.specs.Lists.{fold_to, choose}
 use Rattle.oc_record.proofs.least.Goals as goal
 use Rattle.oc_record.specs.Record.{least_of}
 use borrow.Author.Rules.{rules}
-use lib.Ieee.{nan}
-use lib.ListN.{get_or}
-use mathlib.Core.Bool.{false}
-use mathlib.Core.Path.{◌≡◌, sym}
+use mathlib.Core.Path.{sym}
 use native.Mathlib.Nat.{le_antisymm}
 
 pub loop-i-init : goal.loop-i-init
