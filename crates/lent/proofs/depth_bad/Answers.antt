@@ -1,7 +1,6 @@
 -- `lent::depth_bad` meets its contract: both tests by their promises. Assumes nothing.
 use Rattle.lent.proofs.depth_bad.Goals as goal
 use Rattle.lent.specs.Domain.{depth_bad}
-use borrow.Author.Rules.{rules}
 use mathlib.Core.Bool.{◌&&◌}
 
 pub returns : goal.returns

@@ -1,13 +1,10 @@
 -- `lent::depths_bad` meets its contract. The invariant: what is found among the depths passed. Assumes nothing.
-use Prim.Native.Nat.{◌-◌, ◌≤◌}
 use Rattle.lent.proofs.depths_bad.Goals as goal
-use Rattle.lent.specs.Domain.{depth_bad, depths_bad}
+use Rattle.lent.specs.Domain.{depths_bad}
 use Rattle.lists.proofs.Laws.{any_none, any_step}
 use Rattle.lists.specs.Lists.{any_to}
-use lib.Ieee.{nan}
-use lib.ListN.{length, get_or}
 use mathlib.Core.Bool.{◌||◌}
-use mathlib.Core.Path.{◌≡◌, sym, ap, ◌∙◌}
+use mathlib.Core.Path.{sym, ap, ◌∙◌}
 use native.Mathlib.Nat.{le_antisymm}
 use native.Mathlib.Omega.{arith}
 

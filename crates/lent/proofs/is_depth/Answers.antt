@@ -2,7 +2,6 @@
 use Rattle.lent.proofs.is_depth.Goals as goal
 use Rattle.lent.specs.Domain.{is_depth}
 use Rattle.lists.specs.Lists.{zero64}
-use borrow.Author.Rules.{rules}
 use lib.Ieee.{lt}
 use mathlib.Core.Bool.{Bool, ◌&&◌}
 use mathlib.Core.Path.{ap}

@@ -2,7 +2,6 @@
 use Rattle.lent.proofs.plane_bad.Goals as goal
 use Rattle.lent.specs.Domain.{plane_bad}
 use Rattle.lists.specs.Lists.{any_to}
-use borrow.Author.Rules.{rules}
 
 pub returns : goal.returns
 unfolding plane_bad any_to

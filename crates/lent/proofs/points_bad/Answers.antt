@@ -1,14 +1,9 @@
 -- `lent::points_bad` meets its contract: the places passed are looked at. Assumes nothing.
-use Prim.Native.Nat.{◌-◌, ◌≤◌}
 use Rattle.lent.proofs.points_bad.Goals as goal
-use Rattle.lent.specs.Domain.{point_bad}
 use Rattle.lists.proofs.Laws.{any_none, any_step}
-use Rattle.lists.specs.Lists.{any_to}
 use borrow.Author.Rules.{rules}
-use lib.ListN.{length, get_or}
 use mathlib.Core.Bool.{◌||◌}
-use mathlib.Core.List.{[]}
-use mathlib.Core.Path.{◌≡◌, sym, ◌∙◌}
+use mathlib.Core.Path.{sym, ◌∙◌}
 use native.Mathlib.Nat.{le_antisymm}
 
 pub loop-i-init : goal.loop-i-init

@@ -2,14 +2,10 @@
 use Prim.Native.Nat.{◌-◌, ◌≤◌}
 use Rattle.lent.proofs.points_bad.Given as goal
 use Rattle.lent.specs.Domain.{point_bad}
-use Rattle.lists.proofs.Laws.{any_none, any_step}
 use Rattle.lists.specs.Lists.{any_to}
-use borrow.Author.Rules.{rules}
 use lib.ListN.{length, get_or}
-use mathlib.Core.Bool.{◌||◌}
 use mathlib.Core.List.{[]}
-use mathlib.Core.Path.{◌≡◌, sym, ◌∙◌}
-use native.Mathlib.Nat.{le_antisymm}
+use mathlib.Core.Path.{◌≡◌}
 
 abbrev pub invariant-loop-i : goal.invariant-loop-i
 invariant-loop-i l = (l.i ≤ length l.points) × (l.t ≡ any_to (λ k. point_bad (get_or l.points k [])) l.i)

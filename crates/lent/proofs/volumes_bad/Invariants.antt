@@ -2,14 +2,10 @@
 use Prim.Native.Nat.{◌-◌, ◌≤◌}
 use Rattle.lent.proofs.volumes_bad.Given as goal
 use Rattle.lent.specs.Domain.{volume_bad}
-use Rattle.lists.proofs.Laws.{any_none, any_step}
 use Rattle.lists.specs.Lists.{any_to}
-use borrow.Author.Rules.{rules}
 use lib.Ieee.{nan}
 use lib.ListN.{length, get_or}
-use mathlib.Core.Bool.{◌||◌}
-use mathlib.Core.Path.{◌≡◌, sym, ◌∙◌}
-use native.Mathlib.Nat.{le_antisymm}
+use mathlib.Core.Path.{◌≡◌}
 
 abbrev pub invariant-loop-i : goal.invariant-loop-i
 invariant-loop-i l = (l.i ≤ length l.volumes) × (l.t ≡ any_to (λ k. volume_bad (get_or l.volumes k nan)) l.i)
