@@ -1,7 +1,6 @@
 -- `cells::cell_of` meets its contract. Assumes nothing.
 use Rattle.cells.proofs.cell_of.Goals as goal
 use Rattle.cells.specs.Cells.{cell_at}
-use borrow.Author.Rules.{rules}
 
 pub returns : goal.returns
 unfolding cell_at

@@ -1,11 +1,9 @@
 -- `cells::cells_of` meets its contract. The invariant: the cubes of the points passed are written. Assumes nothing.
-use Prim.Native.Nat.{◌≤◌, ◌-◌}
 use Rattle.cells.proofs.cells_of.Goals as goal
 use Rattle.cells.specs.Cells.{cell_of}
 use Rattle.lists.proofs.Laws.{overwrite-none, overwrite-more}
-use Rattle.lists.specs.Lists.{overwrite}
 use borrow.Author.Rules.{rules}
-use lib.ListN.{set, length, get_or, length-set}
+use lib.ListN.{set, get_or, length-set}
 use mathlib.Core.List.{◌∷◌, []}
 use mathlib.Core.Path.{◌≡◌, refl, sym, ap, ◌∙◌}
 use native.Mathlib.Nat.{le_antisymm}

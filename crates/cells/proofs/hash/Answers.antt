@@ -2,7 +2,6 @@
 use Prim.Native.Nat.{ℕ, ◌+◌, ◌%◌}
 use Rattle.cells.proofs.hash.Goals as goal
 use Rattle.cells.specs.Filing.{hash_of, turned}
-use borrow.Author.Rules.{rules}
 use mathlib.Core.Path.{ap}
 use native.Mathlib.Nat.{mod-lt}
 use native.Mathlib.Omega.{arith}

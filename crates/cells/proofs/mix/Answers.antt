@@ -2,7 +2,6 @@
 use Prim.Native.Nat.{ℕ, ◌*◌, ◌≤◌, ◌<◌}
 use Rattle.cells.proofs.mix.Goals as goal
 use Rattle.cells.specs.Filing.{mixed}
-use borrow.Author.Rules.{rules}
 use mathlib.Core.Path.{refl}
 use native.Mathlib.Nat.{mod-lt, le_of_lt, mul-le-mul_right}
 use native.Mathlib.Omega.{arith}

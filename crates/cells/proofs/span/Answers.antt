@@ -3,7 +3,6 @@ use Prim.Native.Nat.{◌+◌, ◌-◌}
 use Rattle.cells.proofs.Columns.{spanned, spanned-all}
 use Rattle.cells.proofs.span.Goals as goal
 use Rattle.cells.specs.Filing.{turned}
-use borrow.Author.Rules.{rules}
 use native.Mathlib.Omega.{arith}
 
 pub overflow_cast-result : goal.overflow_cast-result
