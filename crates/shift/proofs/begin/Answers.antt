@@ -1,12 +1,11 @@
 -- `begin` meets its contract. The invariant: the places passed have their job's share and limit. Assumes nothing.
-use Prim.Native.Nat.{ℕ, ◌+◌, ◌-◌, ◌≤◌, ◌<◌}
+use Prim.Native.Nat.{ℕ, ◌+◌, ◌≤◌, ◌<◌}
 use Rattle.lists.proofs.Laws.{overwrite-none, overwrite-more, overwrite-all}
 use Rattle.lists.specs.Lists.{tabulate, overwrite}
 use Rattle.shift.proofs.Replies.{unfit-begun, begun}
 use Rattle.shift.proofs.Tests.{fit}
 use Rattle.shift.proofs.begin.Goals as goal
 use Rattle.shift.specs.Grants.{share_of, limit_of, unfit_jobs, no_shift}
-use borrow.Author.Rules.{rules}
 use lib.ListN.{set, replicate}
 use mathlib.Core.Bool.{false}
 use mathlib.Core.List.{List}

@@ -1,12 +1,10 @@
 -- `grant` meets its contract: each way out is a choice of `grant_of`, and a shift that passes 20's test has room for one more. Assumes nothing.
-use Prim.Native.Nat.{◌<◌}
 use Rattle.lists.proofs.Laws.{neither}
 use Rattle.shift.proofs.Replies.{refused_20, refused_30, refused_31, granted}
 use Rattle.shift.proofs.Tests.{passed, right-at}
 use Rattle.shift.proofs.Turns.{chosen_is}
 use Rattle.shift.proofs.grant.Goals as goal
-use Rattle.shift.specs.Grants.{fails_test, unknown_job, chosen_of, granted_to}
-use borrow.Author.Rules.{rules}
+use Rattle.shift.specs.Grants.{fails_test, unknown_job, granted_to}
 use borrow.Author.Tests.{leb-false}
 use lib.Dec.{leb, eqb}
 use mathlib.Core.Bool.{false}

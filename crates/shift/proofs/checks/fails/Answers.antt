@@ -1,13 +1,8 @@
 -- `fails` meets its contract. The invariant: whether the numbers at a place passed are no shift's. Assumes nothing.
-use Prim.Native.Nat.{◌-◌, ◌≤◌}
 use Rattle.lists.proofs.Laws.{any_none, any_step}
-use Rattle.lists.specs.Lists.{any_to}
 use Rattle.shift.proofs.checks.fails.Goals as goal
-use Rattle.shift.specs.Grants.{wrong_numbers, fails_test}
-use borrow.Author.Rules.{rules}
-use lib.Dec.{ltb}
-use lib.ListN.{get_or}
-use mathlib.Core.Path.{◌≡◌, sym, ◌∙◌}
+use Rattle.shift.specs.Grants.{fails_test}
+use mathlib.Core.Path.{sym, ◌∙◌}
 use native.Mathlib.Nat.{le_antisymm}
 use native.Mathlib.Omega.{arith}
 

@@ -1,7 +1,6 @@
 -- `share_of` meets its contract: past its end a list reads as zeros. Assumes nothing.
 use Rattle.shift.proofs.checks.share_of.Goals as goal
 use Rattle.shift.specs.Grants.{share_of}
-use borrow.Author.Rules.{rules}
 use lib.ListN.{get_or-eq_default}
 use mathlib.Core.List.{[]}
 use mathlib.Core.Path.{refl}

@@ -1,11 +1,10 @@
 -- `total` meets its contract. The invariant: the sum of the counts passed, which sixteen numbers of 32 bits keep far from 2^64. Assumes nothing.
-use Prim.Native.Nat.{ℕ, ◌+◌, ◌-◌, ◌*◌, ◌≤◌}
+use Prim.Native.Nat.{ℕ, ◌+◌}
 use Rattle.shift.proofs.Sums.{sum-none, sum_more}
 use Rattle.shift.proofs.checks.total.Goals as goal
 use Rattle.shift.specs.Grants.{sum_of}
-use borrow.Author.Rules.{rules}
 use lib.ListN.{get_or}
-use mathlib.Core.Path.{◌≡◌, sym, ap, ◌∙◌}
+use mathlib.Core.Path.{sym, ap, ◌∙◌}
 use native.Mathlib.Nat.{le_antisymm}
 use native.Mathlib.Omega.{arith}
 

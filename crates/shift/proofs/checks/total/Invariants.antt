@@ -1,13 +1,9 @@
 -- `total` meets its contract. The invariant: the sum of the counts passed, which sixteen numbers of 32 bits keep far from 2^64. Assumes nothing.
-use Prim.Native.Nat.{ℕ, ◌+◌, ◌-◌, ◌*◌, ◌≤◌}
-use Rattle.shift.proofs.Sums.{sum-none, sum_more}
+use Prim.Native.Nat.{◌-◌, ◌*◌, ◌≤◌}
 use Rattle.shift.proofs.checks.total.Given as goal
 use Rattle.shift.specs.Grants.{sum_of}
-use borrow.Author.Rules.{rules}
 use lib.ListN.{get_or}
-use mathlib.Core.Path.{◌≡◌, sym, ap, ◌∙◌}
-use native.Mathlib.Nat.{le_antisymm}
-use native.Mathlib.Omega.{arith}
+use mathlib.Core.Path.{◌≡◌}
 
 abbrev pub invariant-loop-i : goal.invariant-loop-i
 invariant-loop-i l = (l.i ≤ 16) × (l.t ≤ 4294967295 * l.i) × (l.t ≡ sum_of (λ j. get_or l.granted j 0) l.i)

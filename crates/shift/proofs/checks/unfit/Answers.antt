@@ -1,13 +1,10 @@
 -- `unfit` meets its contract. The invariant: whether a job passed has a share or limit out of range. Assumes nothing.
-use Prim.Native.Nat.{ℕ, ◌-◌, ◌≤◌}
+use Prim.Native.Nat.{ℕ}
 use Rattle.lists.proofs.Laws.{any_none, any_step}
-use Rattle.lists.specs.Lists.{any_to}
 use Rattle.shift.proofs.checks.unfit.Goals as goal
 use Rattle.shift.specs.Grants.{in_range, share_of, limit_of, unfit_jobs}
-use borrow.Author.Rules.{rules}
-use lib.ListN.{length}
 use mathlib.Core.Bool.{Bool, not, ◌||◌}
-use mathlib.Core.Path.{◌≡◌, sym, ap, ◌∙◌}
+use mathlib.Core.Path.{sym, ap, ◌∙◌}
 use native.Mathlib.Nat.{le_antisymm}
 use native.Mathlib.Omega.{arith}
 

@@ -1,15 +1,11 @@
 -- `unfit` meets its contract. The invariant: whether a job passed has a share or limit out of range. Assumes nothing.
-use Prim.Native.Nat.{ℕ, ◌-◌, ◌≤◌}
-use Rattle.lists.proofs.Laws.{any_none, any_step}
+use Prim.Native.Nat.{◌-◌, ◌≤◌}
 use Rattle.lists.specs.Lists.{any_to}
 use Rattle.shift.proofs.checks.unfit.Given as goal
-use Rattle.shift.specs.Grants.{in_range, share_of, limit_of, unfit_jobs}
-use borrow.Author.Rules.{rules}
+use Rattle.shift.specs.Grants.{in_range, share_of, limit_of}
 use lib.ListN.{length}
-use mathlib.Core.Bool.{Bool, not, ◌||◌}
-use mathlib.Core.Path.{◌≡◌, sym, ap, ◌∙◌}
-use native.Mathlib.Nat.{le_antisymm}
-use native.Mathlib.Omega.{arith}
+use mathlib.Core.Bool.{not}
+use mathlib.Core.Path.{◌≡◌}
 
 abbrev pub invariant-loop-i : goal.invariant-loop-i
 invariant-loop-i l = (l.i ≤ length l.jobs) × (l.bad ≡ any_to (λ j. not (in_range (share_of l.jobs j) (limit_of l.jobs j))) l.i)

@@ -1,14 +1,11 @@
 -- `unknown` meets its contract. The invariant: whether a number passed names no job. Assumes nothing.
-use Prim.Native.Nat.{◌-◌, ◌≤◌}
 use Rattle.lists.proofs.Laws.{any_none, any_step}
-use Rattle.lists.specs.Lists.{any_to}
 use Rattle.shift.proofs.checks.unknown.Goals as goal
 use Rattle.shift.specs.Grants.{unknown_job}
-use borrow.Author.Rules.{rules}
 use lib.Dec.{leb}
-use lib.ListN.{length, get_or}
+use lib.ListN.{get_or}
 use mathlib.Core.Bool.{Bool, ◌||◌}
-use mathlib.Core.Path.{◌≡◌, sym, ap, ◌∙◌}
+use mathlib.Core.Path.{sym, ap, ◌∙◌}
 use native.Mathlib.Nat.{le_antisymm}
 use native.Mathlib.Omega.{arith}
 

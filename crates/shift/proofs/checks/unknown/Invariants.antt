@@ -1,16 +1,10 @@
 -- `unknown` meets its contract. The invariant: whether a number passed names no job. Assumes nothing.
 use Prim.Native.Nat.{◌-◌, ◌≤◌}
-use Rattle.lists.proofs.Laws.{any_none, any_step}
 use Rattle.lists.specs.Lists.{any_to}
 use Rattle.shift.proofs.checks.unknown.Given as goal
-use Rattle.shift.specs.Grants.{unknown_job}
-use borrow.Author.Rules.{rules}
 use lib.Dec.{leb}
 use lib.ListN.{length, get_or}
-use mathlib.Core.Bool.{Bool, ◌||◌}
-use mathlib.Core.Path.{◌≡◌, sym, ap, ◌∙◌}
-use native.Mathlib.Nat.{le_antisymm}
-use native.Mathlib.Omega.{arith}
+use mathlib.Core.Path.{◌≡◌}
 
 abbrev pub invariant-loop-i : goal.invariant-loop-i
 invariant-loop-i l = (l.i ≤ length l.named) × (l.bad ≡ any_to (λ k. leb l.jobs (get_or l.named k 0)) l.i)

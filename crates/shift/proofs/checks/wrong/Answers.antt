@@ -1,7 +1,6 @@
 -- `wrong` meets its contract, by its two cases. Assumes nothing.
 use Rattle.shift.proofs.checks.wrong.Goals as goal
 use Rattle.shift.specs.Grants.{wrong_numbers}
-use borrow.Author.Rules.{rules}
 
 pub returns-then-job : goal.returns-then-job
 unfolding wrong_numbers

@@ -1,18 +1,13 @@
 -- `chosen` meets its contract. The invariant: who is chosen of the jobs passed. Assumes nothing.
 use Prim.Native.Nat.{ℕ, ◌-◌, ◌≤◌}
-use Rattle.lists.proofs.Laws.{fold_to-none, fold_to-more}
 use Rattle.lists.specs.Lists.{fold_to}
-use Rattle.shift.proofs.Turns.{turned}
 use Rattle.shift.proofs.choice.chosen.Given as goal
 use Rattle.shift.specs.Grants.{turn}
 use Rattle.shift.specs.declared.Shift.{Shift}
-use borrow.Author.Rules.{rules}
 use lib.ListN.{get_or}
 use mathlib.Core.Bool.{false}
 use mathlib.Core.List.{List}
-use mathlib.Core.Path.{◌≡◌, sym, ap, ◌∙◌}
-use native.Mathlib.Nat.{le_antisymm}
-use native.Mathlib.Omega.{arith}
+use mathlib.Core.Path.{◌≡◌}
 
 -- a turn does not look at how many jobs there are
 abbrev pub bare : List ℕ → List ℕ → List ℕ → Shift
