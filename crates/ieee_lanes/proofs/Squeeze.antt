@@ -7,7 +7,7 @@ use native.Mathlib.Nat.{le_antisymm}
 use native.Mathlib.Omega.{arith}
 use native.Mathlib.Numerals.{add-one}
 use lib.Dec.{T}
-use lib.Ieee.{Float, nan, inf, fin, binary64, add, mul, div, round, lt, le, fits, of_bits, of_int, up, sum, units, is_nan}
+use lib.Ieee.{Float, nan, inf, fin, binary64, add, mul, div, round, lt, le, fits, of_bits, of_int, sum, units, is_nan}
 use lib.Ieee.Fits.{add-fits, round-fits}
 use lib.Ieee.Order.{round_mono}
 use lib.Ieee.Positive.{positive, between}

@@ -1,7 +1,6 @@
 -- `ieee_lanes::all_small` meets its contract. Assumes nothing.
 use Rattle.ieee_lanes.proofs.Laws.{eight}
 use Rattle.ieee_lanes.proofs.all_small.Goals as goal
-use borrow.Author.Rules.{rules}
 use mathlib.Core.Path.{sym, ◌∙◌}
 
 pub returns : goal.returns

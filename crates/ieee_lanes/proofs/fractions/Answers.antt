@@ -1,7 +1,6 @@
 -- `ieee_lanes::fractions` meets its contract: by the bounds where they meet, else turn by turn. Assumes nothing.
 use Rattle.ieee_lanes.proofs.Squeeze.{fraction-none, met}
 use Rattle.ieee_lanes.proofs.fractions.Goals as goal
-use borrow.Author.Rules.{rules}
 use lib.Ieee.{of_bits, of_int}
 use native.Mathlib.Omega.{arith}
 

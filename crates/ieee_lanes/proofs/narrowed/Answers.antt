@@ -1,10 +1,9 @@
 -- `ieee_lanes::narrowed` meets its contract. The invariant: each pair of bounds holds after the turns gone through. Assumes nothing.
-use Prim.Native.Nat.{ℕ, ◌-◌, ◌*◌, ◌≤◌, ◌<◌}
+use Prim.Native.Nat.{ℕ, ◌-◌, ◌*◌, ◌<◌}
 use Rattle.ieee.specs.Basic.{one64}
 use Rattle.ieee_lanes.proofs.Squeeze.{step, begun}
 use Rattle.ieee_lanes.proofs.narrowed.Goals as goal
 use Rattle.ieee_lanes.specs.Fraction.{fraction, sixty_four, Between}
-use borrow.Author.Rules.{rules}
 use lib.Dec.{le→leb}
 use lib.Ieee.{in_float}
 use mathlib.Core.Path.{◌≡◌, subst}

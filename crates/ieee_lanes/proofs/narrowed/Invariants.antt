@@ -1,18 +1,10 @@
 -- `ieee_lanes::narrowed` meets its contract. The invariant: each pair of bounds holds after the turns gone through. Assumes nothing.
-use Prim.Native.Nat.{ℕ, ◌-◌, ◌*◌, ◌≤◌, ◌<◌}
-use Rattle.ieee.specs.Basic.{one64}
-use Rattle.ieee_lanes.proofs.Squeeze.{step, begun}
+use Prim.Native.Nat.{◌-◌, ◌≤◌, ◌<◌}
 use Rattle.ieee_lanes.proofs.narrowed.Given as goal
-use Rattle.ieee_lanes.specs.Fraction.{fraction, sixty_four, Between}
-use borrow.Author.Rules.{rules}
-use lib.Dec.{le→leb}
-use lib.Ieee.{in_float}
-use mathlib.Core.Path.{◌≡◌, subst}
-use native.Mathlib.Nat.{le_antisymm}
-use native.Mathlib.Omega.{arith}
+use Rattle.ieee_lanes.specs.Fraction.{fraction, Between}
 
 abbrev pub invariant-loop-i : goal.invariant-loop-i
-invariant-loop-i l =     (l.start < l.i)
+invariant-loop-i l = (l.start < l.i)
     × (l.i ≤ l.stop)
     × Between (fraction l.a l.i) l.p l.p2
     × Between (fraction l.b l.i) l.q l.q2

@@ -1,7 +1,6 @@
 -- `ieee_lanes::tanh_each` meets its contract. Assumes nothing.
 use Rattle.ieee_lanes.proofs.Laws.{turn-over}
 use Rattle.ieee_lanes.proofs.tanh_each.Goals as goal
-use borrow.Author.Rules.{rules}
 
 pub returns : goal.returns
 returns c = let a = c.args in

@@ -1,12 +1,11 @@
 -- `ieee_lanes::turns` meets its contract, each of the eight as `ieee_tanh::tanh`. The invariant: each is its `fraction` of the turns gone through. Assumes nothing.
-use Prim.Native.Nat.{◌-◌, ◌*◌, ◌≤◌}
+use Prim.Native.Nat.{◌-◌, ◌*◌}
 use Rattle.ieee_lanes.proofs.Squeeze.{fraction-more}
 use Rattle.ieee_lanes.proofs.turns.Goals as goal
 use Rattle.ieee_lanes.specs.Fraction.{fraction}
-use borrow.Author.Rules.{rules}
 use lib.Dec.{le→leb}
 use lib.Ieee.{in_float}
-use mathlib.Core.Path.{◌≡◌, ap, ◌∙◌}
+use mathlib.Core.Path.{ap, ◌∙◌}
 use native.Mathlib.Nat.{le_antisymm}
 use native.Mathlib.Omega.{arith}
 
