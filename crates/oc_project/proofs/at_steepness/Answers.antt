@@ -1,7 +1,6 @@
 -- `oc_project::at_steepness` meets its contract by that of `ieee_tanh::tanh`. Assumes nothing.
 use Rattle.oc_project.proofs.at_steepness.Goals as goal
 use Rattle.oc_project.specs.Project.{below_of, whole_of}
-use borrow.Author.Rules.{rules}
 use mathlib.Core.Path.{refl}
 
 pub returns : goal.returns

@@ -1,7 +1,6 @@
 -- `oc_project::project` meets its contract by that of `ieee_tanh::tanh`. Assumes nothing.
 use Rattle.oc_project.proofs.project.Goals as goal
 use Rattle.oc_project.specs.Project.{turned, projected, projected_slope}
-use borrow.Author.Rules.{rules}
 
 pub returns : goal.returns
 unfolding turned projected projected_slope
