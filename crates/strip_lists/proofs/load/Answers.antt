@@ -22,7 +22,7 @@ unfolding job_of too_short
 returns-then-short c = let a = c.args in
     let job = c.in-Read.job in
     let w = was_read a.bytes.now _ _ _ job c.in-Read.is c.read-answer.ensures in
-    let p = lent a.volume-bits.now a.centroid-bits.now a.weight-bits.now a.passive.now a.mirror-bits.now in
+    let p = lent a.volume_bits.now a.centroid_bits.now a.weight_bits.now a.passive.now a.mirror_bits.now in
     let l : Lists = record { volumes = a.volumes.now; centroids = a.centroids.now; weights = a.weights.now; passive = a.passive.now; mirrors = a.mirrors.now } in
     let en : job.elements ≡ elements_of a.bytes.now = ap (λ (j : Job). j.elements) w.job in
     let ek : job.mirrors ≡ mirrors_of a.bytes.now = ap (λ (j : Job). j.mirrors) w.job in
@@ -33,7 +33,7 @@ unfolding job_of too_short
 numbers-requires c = let a = c.args in
     let job = c.in-Read.job in
     let w = was_read a.bytes.now _ _ _ job c.in-Read.is c.read-answer.ensures in
-    let p = lent a.volume-bits.now a.centroid-bits.now a.weight-bits.now a.passive.now a.mirror-bits.now in
+    let p = lent a.volume_bits.now a.centroid_bits.now a.weight_bits.now a.passive.now a.mirror_bits.now in
     let l : Lists = record { volumes = a.volumes.now; centroids = a.centroids.now; weights = a.weights.now; passive = a.passive.now; mirrors = a.mirrors.now } in
     let en : job.elements ≡ elements_of a.bytes.now = ap (λ (j : Job). j.elements) w.job in
     let ek : job.mirrors ≡ mirrors_of a.bytes.now = ap (λ (j : Job). j.mirrors) w.job in
@@ -46,7 +46,7 @@ unfolding job_of too_short
 points-requires c = let a = c.args in
     let job = c.in-Read.job in
     let w = was_read a.bytes.now _ _ _ job c.in-Read.is c.read-answer.ensures in
-    let p = lent a.volume-bits.now a.centroid-bits.now a.weight-bits.now a.passive.now a.mirror-bits.now in
+    let p = lent a.volume_bits.now a.centroid_bits.now a.weight_bits.now a.passive.now a.mirror_bits.now in
     let l : Lists = record { volumes = a.volumes.now; centroids = a.centroids.now; weights = a.weights.now; passive = a.passive.now; mirrors = a.mirrors.now } in
     let en : job.elements ≡ elements_of a.bytes.now = ap (λ (j : Job). j.elements) w.job in
     let ek : job.mirrors ≡ mirrors_of a.bytes.now = ap (λ (j : Job). j.mirrors) w.job in
@@ -59,7 +59,7 @@ unfolding job_of too_short
 numbers-requires-in-Read c = let a = c.args in
     let job = c.in-Read.job in
     let w = was_read a.bytes.now _ _ _ job c.in-Read.is c.read-answer.ensures in
-    let p = lent a.volume-bits.now a.centroid-bits.now a.weight-bits.now a.passive.now a.mirror-bits.now in
+    let p = lent a.volume_bits.now a.centroid_bits.now a.weight_bits.now a.passive.now a.mirror_bits.now in
     let l : Lists = record { volumes = a.volumes.now; centroids = a.centroids.now; weights = a.weights.now; passive = a.passive.now; mirrors = a.mirrors.now } in
     let en : job.elements ≡ elements_of a.bytes.now = ap (λ (j : Job). j.elements) w.job in
     let ek : job.mirrors ≡ mirrors_of a.bytes.now = ap (λ (j : Job). j.mirrors) w.job in
@@ -72,7 +72,7 @@ unfolding job_of too_short
 planes-requires c = let a = c.args in
     let job = c.in-Read.job in
     let w = was_read a.bytes.now _ _ _ job c.in-Read.is c.read-answer.ensures in
-    let p = lent a.volume-bits.now a.centroid-bits.now a.weight-bits.now a.passive.now a.mirror-bits.now in
+    let p = lent a.volume_bits.now a.centroid_bits.now a.weight_bits.now a.passive.now a.mirror_bits.now in
     let l : Lists = record { volumes = a.volumes.now; centroids = a.centroids.now; weights = a.weights.now; passive = a.passive.now; mirrors = a.mirrors.now } in
     let en : job.elements ≡ elements_of a.bytes.now = ap (λ (j : Job). j.elements) w.job in
     let ek : job.mirrors ≡ mirrors_of a.bytes.now = ap (λ (j : Job). j.mirrors) w.job in
@@ -85,7 +85,7 @@ unfolding job_of too_short
 returns-in-Read c = let a = c.args in
     let job = c.in-Read.job in
     let w = was_read a.bytes.now _ _ _ job c.in-Read.is c.read-answer.ensures in
-    let p = lent a.volume-bits.now a.centroid-bits.now a.weight-bits.now a.passive.now a.mirror-bits.now in
+    let p = lent a.volume_bits.now a.centroid_bits.now a.weight_bits.now a.passive.now a.mirror_bits.now in
     let l : Lists = record { volumes = a.volumes.now; centroids = a.centroids.now; weights = a.weights.now; passive = a.passive.now; mirrors = a.mirrors.now } in
     let en : job.elements ≡ elements_of a.bytes.now = ap (λ (j : Job). j.elements) w.job in
     let ek : job.mirrors ≡ mirrors_of a.bytes.now = ap (λ (j : Job). j.mirrors) w.job in

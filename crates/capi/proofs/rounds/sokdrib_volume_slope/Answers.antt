@@ -28,4 +28,4 @@ volume_slope-requires c = (same_count _ _ (accepted _ _ _ c.refusal-refused.ensu
 pub returns : goal.returns
 returns c = let a = c.args in
     let z = c.if-refused-ne0.false in
-    record { value = sym z ∙ c.refusal-refused.ensures; out_after = written 0 (length a.slope.now) _ c.volume_slope.new.out a.out.now refl (two-fit _ _ _ _ _ c.refusal-refused.ensures c.if-refused-ne0.false).1 c.volume_slope.auto.out c.volume_slope.ensures; worked_by = worked-front 0 (length a.slope.now) a.by-density.now c.volume_slope.new.by_density refl (two-fit _ _ _ _ _ c.refusal-refused.ensures c.if-refused-ne0.false).0 c.volume_slope.auto.by_density }
+    record { value = sym z ∙ c.refusal-refused.ensures; out_after = written 0 (length a.slope.now) _ c.volume_slope.new.out a.out.now refl (two-fit _ _ _ _ _ c.refusal-refused.ensures c.if-refused-ne0.false).1 c.volume_slope.auto.out c.volume_slope.ensures; worked_by = worked-front 0 (length a.slope.now) a.by_density.now c.volume_slope.new.by_density refl (two-fit _ _ _ _ _ c.refusal-refused.ensures c.if-refused-ne0.false).0 c.volume_slope.auto.by_density }

@@ -31,4 +31,4 @@ work_slope-requires c = let differ = neither _ _ (accepted _ _ _ c.refusal-refus
 pub returns : goal.returns
 returns c = let a = c.args in
     let z = c.if-refused-ne0.false in
-    record { value = sym z ∙ c.refusal-refused.ensures; out_after = written 0 (length a.passive.now) _ c.work_slope.new.out a.out.now refl (two-fit _ _ _ _ _ c.refusal-refused.ensures c.if-refused-ne0.false).1 c.work_slope.auto.out c.work_slope.ensures; worked_by = worked-front 0 (length a.passive.now) a.by-density.now c.work_slope.new.by_density refl (two-fit _ _ _ _ _ c.refusal-refused.ensures c.if-refused-ne0.false).0 c.work_slope.auto.by_density }
+    record { value = sym z ∙ c.refusal-refused.ensures; out_after = written 0 (length a.passive.now) _ c.work_slope.new.out a.out.now refl (two-fit _ _ _ _ _ c.refusal-refused.ensures c.if-refused-ne0.false).1 c.work_slope.auto.out c.work_slope.ensures; worked_by = worked-front 0 (length a.passive.now) a.by_density.now c.work_slope.new.by_density refl (two-fit _ _ _ _ _ c.refusal-refused.ensures c.if-refused-ne0.false).0 c.work_slope.auto.by_density }
