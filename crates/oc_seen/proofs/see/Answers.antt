@@ -1,7 +1,6 @@
 -- `oc_seen::see` meets its contract by those of its two stages. Assumes nothing.
 use Rattle.oc_seen.proofs.Laws.{density-is, slope-is}
 use Rattle.oc_seen.proofs.see.Goals as goal
-use borrow.Author.Rules.{rules}
 
 pub returns-in-Off : goal.returns-in-Off
 returns-in-Off c = let s = c.in-Off.is in

@@ -1,18 +1,14 @@
 -- `oc_seen::see_sharpened` meets its contract: the places passed are filled, and the next one is still as it was lent. Assumes nothing.
-use Prim.Native.Nat.{◌-◌, ◌≤◌}
 use Rattle.ieee.specs.Basic.{one64, clamp_of}
 use Rattle.lists.proofs.Filled.{unwritten, stored, filled}
 use Rattle.lists.proofs.Laws.{overwrite-none}
-use Rattle.lists.specs.Lists.{overwrite, choose, zero64}
+use Rattle.lists.specs.Lists.{choose, zero64}
 use Rattle.oc_project.specs.Project.{below_of, whole_of, projected, projected_slope}
 use Rattle.oc_seen.proofs.see_sharpened.Goals as goal
 use Rattle.oc_seen.specs.Seen.{sharpened, sharpened_slope, element_density, element_slope, densities, slopes}
-use Rattle.oc_seen.specs.declared.Sharpness.TheVariants.{At}
 use borrow.Author.Rules.{rules}
 use lib.Ieee.{nan}
-use lib.ListN.{length, get_or}
-use mathlib.Core.Bool.{false}
-use mathlib.Core.Path.{◌≡◌, refl, sym, ap, ◌∙◌}
+use mathlib.Core.Path.{refl, sym, ap, ◌∙◌}
 use native.Mathlib.Omega.{arith}
 
 pub loop-i-init : goal.loop-i-init
