@@ -2,7 +2,6 @@
 use Rattle.lists.proofs.Laws.{choose-true, choose-false}
 use Rattle.strip_job.proofs.refusal.Goals as goal
 use Rattle.strip_job.specs.Strips.{refusal_of}
-use borrow.Author.Rules.{rules}
 use mathlib.Core.Path.{sym, ap, ◌∙◌}
 
 pub returns-then-many : goal.returns-then-many
