@@ -7,7 +7,6 @@ use Rattle.strip_floats.specs.Floats.{float_at, point_of, plane_of}
 use Rattle.strip_lists.proofs.Laws.{was_read, not-read, Longs, longs, Roomy, roomy, no_read, no_room, loaded}
 use Rattle.strip_lists.proofs.load.Goals as goal
 use Rattle.strip_lists.specs.Loaded.{Lists, too_short}
-use borrow.Author.Rules.{rules}
 use lib.ListN.{get_or}
 use mathlib.Core.List.{[]}
 use mathlib.Core.Path.{◌≡◌, refl, sym, ap, ◌∙◌}
