@@ -7,7 +7,6 @@ use Rattle.ieee_root.proofs.Monotone.{sqrt-at-least}
 use Rattle.ieee_root.specs.Sqrt.{sqrt_of}
 use Rattle.lists.proofs.Bools.{never}
 use Rattle.lists.specs.Lists.{zero64}
-use borrow.Author.Rules.{rules}
 use lib.Ieee.Fits.{mul-fits}
 use lib.Ieee.{Float, binary64, mul, div, le, lt, eq, of_bits}
 use mathlib.Core.Bool.{false}

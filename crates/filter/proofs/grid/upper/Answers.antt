@@ -1,13 +1,11 @@
 -- `filter::grid::upper` meets its contract. The invariant: the corner of the middles passed. Assumes nothing.
-use Prim.Native.Nat.{◌-◌, ◌≤◌}
 use Rattle.filter.proofs.grid.upper.Goals as goal
 use Rattle.filter.specs.Filter.{middle, highest}
 use Rattle.geom.specs.Vectors.{greatest}
 use Rattle.lists.proofs.Laws.{fold_over-none, fold_over-more}
 use Rattle.lists.specs.Lists.{fold_over}
 use borrow.Author.Rules.{rules}
-use lib.ListN.{length}
-use mathlib.Core.Path.{◌≡◌, sym, ap, ◌∙◌}
+use mathlib.Core.Path.{sym, ap, ◌∙◌}
 use native.Mathlib.Nat.{le_antisymm}
 use native.Mathlib.Omega.{arith}
 

@@ -1,7 +1,6 @@
 -- `filter::room::refusal` meets its contract: the chain from its links. Assumes nothing.
 use Rattle.filter.proofs.room.refusal.Goals as goal
 use Rattle.lists.specs.Lists.{choose}
-use borrow.Author.Rules.{rules}
 use mathlib.Core.Path.{ap, ◌∙◌}
 
 pub returns : goal.returns
