@@ -1,6 +1,6 @@
 -- Two halves of a list, each changed where it lies. Assumes nothing.
 use mathlib.Core.Path.{◌≡◌, ap, ◌∙◌}
-use mathlib.Core.List.{List, ◌++◌, append_nil}
+use mathlib.Core.List.{List, ◌++◌, append-nil}
 use Prim.Native.Nat.{ℕ, ◌-◌, ◌≤◌}
 use native.Mathlib.Omega.{arith}
 use lib.ListN.{length, take, drop, length-drop, drop_of_length-le}
@@ -31,4 +31,4 @@ module _ {A : Type 0} {l s : List A} {h k : ℕ} (lent : Lent l s h k) where
   two_is t =
       let past = ap (drop k) (drop_at s (drop h l) h front_length) ∙ drop_of_length-le (drop h l) {i = k} (omega (arith, lent.left, length-drop h l)) in
       let front = take_at s (drop h l) h front_length in
-      (λ i. front i ++ (t ++ past i)) ∙ ap (λ (x : List A). s ++ x) (append_nil t)
+      (λ i. front i ++ (t ++ past i)) ∙ ap (λ (x : List A). s ++ x) (append-nil t)

@@ -5,7 +5,6 @@ use Rattle.lists.proofs.Laws.{choose-true, choose-false}
 use Rattle.lists.specs.Lists.{choose}
 use Rattle.region_tree.proofs.axis.Goals as goal
 use Rattle.region_tree.specs.Tree.{axis_of}
-use borrow.Author.Rules.{rules}
 use lib.Ieee.{le}
 use mathlib.Core.Bool.{◌&&◌}
 use mathlib.Core.Path.{sym, ap, ◌∙◌}

@@ -1,11 +1,11 @@
 -- `region_tree::bounds_of` meets its contract. The loop's invariant: the box so far, widened by the triangles to come, is the whole box. Assumes nothing.
-use Prim.Native.Nat.{◌≤◌, ◌-◌, ◌+◌}
+use Prim.Native.Nat.{◌+◌}
 use Rattle.region_tree.proofs.Boxes.{widened_more, widened-all}
 use Rattle.region_tree.proofs.bounds_of.Goals as goal
 use Rattle.region_tree.specs.Tree.{widened, bounds_from, bounds_of}
 use Rattle.region_tree.specs.declared.Bounds.{Bounds}
-use lib.ListN.{length, drop}
-use mathlib.Core.Path.{◌≡◌, ap, ◌∙◌}
+use lib.ListN.{drop}
+use mathlib.Core.Path.{ap, ◌∙◌}
 use native.Mathlib.Omega.{arith}
 
 pub new-requires : goal.new-requires
@@ -32,7 +32,7 @@ pub widened-b-requires : goal.widened-b-requires
 widened-b-requires c = tt
 
 pub overflow_add-i : goal.overflow_add-i
-overflow_add-i c = omega (arith, c.before.before.before)
+overflow_add-i c = omega arith
 
 pub loop-i-smaller : goal.loop-i-smaller
 loop-i-smaller c = omega arith
@@ -41,9 +41,9 @@ pub loop-i-preserved : goal.loop-i-preserved
 loop-i-preserved c = let a = c.args in
     let l = c.loop-i in
     let e = c.widened-b.ensures ∙ ap (widened l.b) c.face_at.ensures in (
-      omega (arith, c.before.before.before),
+      omega arith,
       ap (λ (x : Bounds). bounds_from a.faces.now x (drop (l.i + 1) a.order.now)) e
-          ∙ widened_more a.faces.now a.order.now l.i l.b (omega (arith, c.before.before.before))
+          ∙ widened_more a.faces.now a.order.now l.i l.b (omega arith)
           ∙ l.invariant.1,
     )
 

@@ -1,7 +1,6 @@
 -- `region_tree::corners` meets its contract. Assumes nothing.
 use Rattle.region_tree.proofs.corners.Goals as goal
 use Rattle.region_tree.specs.Tree.{corners_of}
-use borrow.Author.Rules.{rules}
 
 pub returns : goal.returns
 unfolding corners_of

@@ -1,7 +1,6 @@
 -- `region_tree::face_at` meets its contract. Assumes nothing.
 use Rattle.region_tree.proofs.face_at.Goals as goal
 use Rattle.region_tree.specs.Tree.{corners_of, face_at}
-use borrow.Author.Rules.{rules}
 use lib.Ieee.{div, of_bits}
 use lib.ListN.{get_or-eq_default}
 use mathlib.Core.List.{[]}

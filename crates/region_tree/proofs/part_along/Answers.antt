@@ -1,7 +1,6 @@
 -- `region_tree::part_along` meets its contract. Assumes nothing.
 use Rattle.lists.specs.Lists.{choose}
 use Rattle.region_tree.proofs.part_along.Goals as goal
-use borrow.Author.Rules.{rules}
 use borrow.Author.Tests.{eq-eqb, ne_eqb}
 
 pub returns-then-a-eq0 : goal.returns-then-a-eq0

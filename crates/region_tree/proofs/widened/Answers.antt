@@ -2,7 +2,6 @@
 use Rattle.geom.specs.Vectors.{least, greatest}
 use Rattle.region_tree.proofs.widened.Goals as goal
 use Rattle.region_tree.specs.Tree.{widened}
-use borrow.Author.Rules.{rules}
 use mathlib.Core.Path.{◌∙◌}
 
 pub returns : goal.returns
