@@ -1,5 +1,4 @@
 use Rattle.oc_kept.proofs.filtered.Goals as goal
-use borrow.Author.Rules.{rules}
 
 -- `oc_kept::filtered` meets its contract: both products are the same. Assumes nothing.
 pub apply_well-requires : goal.apply_well-requires

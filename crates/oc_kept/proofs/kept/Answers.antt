@@ -2,7 +2,6 @@
 use Rattle.oc_kept.proofs.Laws.{kept-straight, kept-sharpened}
 use Rattle.oc_kept.proofs.kept.Goals as goal
 use Rattle.oc_seen.proofs.Laws.{density-is}
-use borrow.Author.Rules.{rules}
 use mathlib.Core.Path.{refl}
 
 pub returns-in-Straight : goal.returns-in-Straight

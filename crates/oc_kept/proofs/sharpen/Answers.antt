@@ -1,18 +1,14 @@
 -- `oc_kept::sharpen` meets its contract: the places passed are filled, and the next one is still as it was lent. Assumes nothing.
-use Prim.Native.Nat.{◌-◌, ◌≤◌}
 use Rattle.ieee.specs.Basic.{one64, clamp_of}
 use Rattle.lists.proofs.Filled.{unwritten, stored, filled}
 use Rattle.lists.proofs.Laws.{overwrite-none}
-use Rattle.lists.specs.Lists.{overwrite, choose}
+use Rattle.lists.specs.Lists.{choose}
 use Rattle.oc_kept.proofs.sharpen.Goals as goal
 use Rattle.oc_project.specs.Project.{below_of, whole_of, projected}
 use Rattle.oc_seen.specs.Seen.{sharpened, element_density, densities}
-use Rattle.oc_seen.specs.declared.Sharpness.TheVariants.{At}
 use borrow.Author.Rules.{rules}
 use lib.Ieee.{nan}
-use lib.ListN.{length, get_or}
-use mathlib.Core.Bool.{false}
-use mathlib.Core.Path.{◌≡◌, refl, sym, ap, ◌∙◌}
+use mathlib.Core.Path.{refl, sym, ap, ◌∙◌}
 use native.Mathlib.Omega.{arith}
 
 pub loop-i-init : goal.loop-i-init

@@ -1,22 +1,16 @@
 -- `oc_kept::sharpen` meets its contract: the places passed are filled, and the next one is still as it was lent. Assumes nothing.
 use Prim.Native.Nat.{◌-◌, ◌≤◌}
-use Rattle.ieee.specs.Basic.{one64, clamp_of}
-use Rattle.lists.proofs.Filled.{unwritten, stored, filled}
-use Rattle.lists.proofs.Laws.{overwrite-none}
-use Rattle.lists.specs.Lists.{overwrite, choose}
+use Rattle.lists.specs.Lists.{overwrite}
 use Rattle.oc_kept.proofs.sharpen.Given as goal
-use Rattle.oc_project.specs.Project.{below_of, whole_of, projected}
-use Rattle.oc_seen.specs.Seen.{sharpened, element_density, densities}
+use Rattle.oc_seen.specs.Seen.{element_density}
 use Rattle.oc_seen.specs.declared.Sharpness.TheVariants.{At}
-use borrow.Author.Rules.{rules}
 use lib.Ieee.{nan}
 use lib.ListN.{length, get_or}
 use mathlib.Core.Bool.{false}
-use mathlib.Core.Path.{◌≡◌, refl, sym, ap, ◌∙◌}
-use native.Mathlib.Omega.{arith}
+use mathlib.Core.Path.{◌≡◌}
 
 abbrev pub invariant-loop-i : goal.invariant-loop-i
-invariant-loop-i l =     (l.i ≤ length l.passive)
+invariant-loop-i l = (l.i ≤ length l.passive)
     × (length l.density ≡ length l.initial.density)
     × (l.density ≡ overwrite (λ e. element_density (At l.beta) (get_or l.passive e false) (get_or l.initial.density e nan)) l.i l.initial.density)
 
