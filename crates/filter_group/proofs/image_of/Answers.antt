@@ -1,7 +1,6 @@
 -- `filter_group::image_of` meets its contract: three reflections, those of planes that are there and in the member. Assumes nothing.
 use Rattle.filter_group.proofs.Images.{three_images}
 use Rattle.filter_group.proofs.image_of.Goals as goal
-use borrow.Author.Rules.{rules}
 use mathlib.Core.Path.{◌∙◌}
 
 pub returns : goal.returns

@@ -1,14 +1,9 @@
 -- `filter_group::leans` meets its contract. The invariant: the flag says whether a plane passed is not square to plane j. Assumes nothing.
-use Prim.Native.Nat.{◌-◌, ◌≤◌}
 use Rattle.filter_group.proofs.leans.Goals as goal
-use Rattle.filter_group.specs.Group.{unit, skew, skew_before}
-use Rattle.lent.specs.Points.{plane}
+use Rattle.filter_group.specs.Group.{skew_before}
 use Rattle.lists.proofs.Laws.{any_none, any_step}
-use Rattle.lists.specs.Lists.{any_to}
 use borrow.Author.Rules.{rules}
-use lib.ListN.{get_or}
-use mathlib.Core.List.{[]}
-use mathlib.Core.Path.{◌≡◌, sym}
+use mathlib.Core.Path.{sym}
 use native.Mathlib.Nat.{le_antisymm}
 
 pub loop-i-init : goal.loop-i-init

@@ -1,15 +1,12 @@
 -- `filter_group::leans` meets its contract. The invariant: the flag says whether a plane passed is not square to plane j. Assumes nothing.
 use Prim.Native.Nat.{◌-◌, ◌≤◌}
 use Rattle.filter_group.proofs.leans.Given as goal
-use Rattle.filter_group.specs.Group.{unit, skew, skew_before}
+use Rattle.filter_group.specs.Group.{unit, skew}
 use Rattle.lent.specs.Points.{plane}
-use Rattle.lists.proofs.Laws.{any_none, any_step}
 use Rattle.lists.specs.Lists.{any_to}
-use borrow.Author.Rules.{rules}
 use lib.ListN.{get_or}
 use mathlib.Core.List.{[]}
-use mathlib.Core.Path.{◌≡◌, sym}
-use native.Mathlib.Nat.{le_antisymm}
+use mathlib.Core.Path.{◌≡◌}
 
 abbrev pub invariant-loop-i : goal.invariant-loop-i
 invariant-loop-i l = (l.i ≤ l.j) × (l.t ≡ any_to (λ k. skew (unit (plane (get_or l.planes k []))) (unit (plane (get_or l.planes l.j [])))) l.i)

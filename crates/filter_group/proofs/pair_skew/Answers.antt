@@ -1,7 +1,6 @@
 -- `filter_group::pair_skew` meets its contract by the calls' promises. Assumes nothing.
 use Rattle.filter_group.proofs.pair_skew.Goals as goal
 use Rattle.filter_group.specs.Group.{skew}
-use borrow.Author.Rules.{rules}
 
 pub returns : goal.returns
 unfolding skew

@@ -1,14 +1,9 @@
 -- `filter_group::planes_bad` meets its contract. The invariant: the flag says whether a plane passed is bad. Assumes nothing.
-use Prim.Native.Nat.{◌-◌, ◌≤◌}
 use Rattle.filter_group.proofs.planes_bad.Goals as goal
 use Rattle.filter_group.specs.Group.{planes_bad}
-use Rattle.lent.specs.Domain.{plane_bad}
 use Rattle.lists.proofs.Laws.{any_none, any_step}
-use Rattle.lists.specs.Lists.{any_to}
 use borrow.Author.Rules.{rules}
-use lib.ListN.{length, get_or}
-use mathlib.Core.List.{[]}
-use mathlib.Core.Path.{◌≡◌, sym}
+use mathlib.Core.Path.{sym}
 use native.Mathlib.Nat.{le_antisymm}
 
 pub loop-k-init : goal.loop-k-init

@@ -1,12 +1,9 @@
 -- `filter_group::planes_square` meets its contract. The invariant: the flag says whether a plane passed leans. Assumes nothing.
-use Prim.Native.Nat.{◌-◌, ◌≤◌}
 use Rattle.filter_group.proofs.planes_square.Goals as goal
-use Rattle.filter_group.specs.Group.{skew_before, planes_skew}
+use Rattle.filter_group.specs.Group.{planes_skew}
 use Rattle.lists.proofs.Laws.{any_none, any_step}
-use Rattle.lists.specs.Lists.{any_to}
 use borrow.Author.Rules.{rules}
-use lib.ListN.{length}
-use mathlib.Core.Path.{◌≡◌, sym}
+use mathlib.Core.Path.{sym}
 use native.Mathlib.Nat.{le_antisymm}
 
 pub loop-j-init : goal.loop-j-init

@@ -1,7 +1,6 @@
 -- `filter_group::reflect` meets its contract, arm by arm. Assumes nothing.
 use Rattle.filter_group.proofs.reflect.Goals as goal
 use Rattle.lists.proofs.Laws.{choose-true, choose-false}
-use borrow.Author.Rules.{rules}
 use mathlib.Core.Path.{sym, ◌∙◌}
 
 pub returns-then-on : goal.returns-then-on

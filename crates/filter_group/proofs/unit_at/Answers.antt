@@ -1,7 +1,6 @@
 -- `filter_group::unit_at` meets its contract: the plane is there, or past the end. Assumes nothing.
 use Rattle.filter_group.proofs.Images.{mirror-at, mirror-past}
 use Rattle.filter_group.proofs.unit_at.Goals as goal
-use borrow.Author.Rules.{rules}
 use mathlib.Core.Path.{sym, ◌∙◌}
 
 pub returns-then-k-planes : goal.returns-then-k-planes

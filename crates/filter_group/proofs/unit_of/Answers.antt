@@ -1,8 +1,6 @@
 -- `filter_group::unit_of` meets its contract by the calls' promises. Assumes nothing.
 use Rattle.filter_group.proofs.unit_of.Goals as goal
 use Rattle.filter_group.specs.Group.{unit}
-use Rattle.geom.specs.Vectors.{normalized}
-use borrow.Author.Rules.{rules}
 
 pub returns : goal.returns
 unfolding unit
