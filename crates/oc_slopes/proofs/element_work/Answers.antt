@@ -1,7 +1,6 @@
 -- `oc_slopes::element_work` meets its contract by those of the level and its modulus. Assumes nothing.
 use Rattle.oc_slopes.proofs.element_work.Goals as goal
 use Rattle.oc_slopes.specs.Slopes.{element_work}
-use borrow.Author.Rules.{rules}
 
 pub returns : goal.returns
 unfolding element_work

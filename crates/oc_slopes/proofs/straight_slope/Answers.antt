@@ -2,7 +2,6 @@
 use Rattle.filter_table.specs.Table.{backed}
 use Rattle.oc_slopes.proofs.straight_slope.Goals as goal
 use Rattle.oc_slopes.specs.Slopes.{straight_slope}
-use borrow.Author.Rules.{rules}
 use mathlib.Core.Path.{ap, ◌∙◌}
 
 pub returns : goal.returns

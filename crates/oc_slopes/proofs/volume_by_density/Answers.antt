@@ -1,14 +1,10 @@
 -- `oc_slopes::volume_by_density` meets its contract: the places passed are filled. Assumes nothing.
-use Prim.Native.Nat.{◌-◌, ◌≤◌}
 use Rattle.lists.proofs.Filled.{stored, filled}
 use Rattle.lists.proofs.Laws.{overwrite-none}
-use Rattle.lists.specs.Lists.{overwrite}
 use Rattle.oc_slopes.proofs.volume_by_density.Goals as goal
 use Rattle.oc_slopes.specs.Slopes.{volume_by_density}
 use borrow.Author.Rules.{rules}
-use lib.Ieee.{nan, binary64, mul}
-use lib.ListN.{length, get_or}
-use mathlib.Core.Path.{◌≡◌, refl, sym}
+use mathlib.Core.Path.{refl, sym}
 use native.Mathlib.Omega.{arith}
 
 pub loop-i-init : goal.loop-i-init

@@ -1,7 +1,6 @@
 -- `oc_slopes::volume_slope` meets its contract by those of its two stages. Assumes nothing.
 use Rattle.oc_slopes.proofs.Laws.{volume-is}
 use Rattle.oc_slopes.proofs.volume_slope.Goals as goal
-use borrow.Author.Rules.{rules}
 use native.Mathlib.Omega.{arith}
 
 pub returns : goal.returns

@@ -1,15 +1,11 @@
 -- `oc_slopes::work_by_density` meets its contract: the places passed are filled. Assumes nothing.
-use Prim.Native.Nat.{◌-◌, ◌≤◌}
 use Rattle.lists.proofs.Filled.{stored, filled}
 use Rattle.lists.proofs.Laws.{overwrite-none}
-use Rattle.lists.specs.Lists.{overwrite, choose, zero64}
+use Rattle.lists.specs.Lists.{choose, zero64}
 use Rattle.oc_slopes.proofs.work_by_density.Goals as goal
-use Rattle.oc_slopes.specs.Slopes.{element_work, work_by_density}
+use Rattle.oc_slopes.specs.Slopes.{work_by_density}
 use borrow.Author.Rules.{rules}
-use lib.Ieee.{nan}
-use lib.ListN.{length, get_or}
-use mathlib.Core.Bool.{false}
-use mathlib.Core.Path.{◌≡◌, refl, sym, ap, ◌∙◌}
+use mathlib.Core.Path.{refl, sym, ap, ◌∙◌}
 use native.Mathlib.Omega.{arith}
 
 pub loop-i-init : goal.loop-i-init

@@ -1,7 +1,6 @@
 -- `oc_slopes::work_slope` meets its contract by those of its two stages. Assumes nothing.
 use Rattle.oc_slopes.proofs.Laws.{work-is}
 use Rattle.oc_slopes.proofs.work_slope.Goals as goal
-use borrow.Author.Rules.{rules}
 use native.Mathlib.Omega.{arith}
 
 pub returns : goal.returns
