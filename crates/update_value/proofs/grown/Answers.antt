@@ -2,7 +2,6 @@
 use Rattle.lists.proofs.Laws.{choose-true, choose-false}
 use Rattle.update_value.proofs.grown.Goals as goal
 use Rattle.update_value.specs.Value.{grown}
-use borrow.Author.Rules.{rules}
 use lib.Ieee.{binary64, mul}
 use mathlib.Core.Path.{sym, ap, ◌∙◌}
 

@@ -1,7 +1,6 @@
 -- `update_value::limited` meets its contract by those of its calls. Assumes nothing.
 use Rattle.update_value.proofs.limited.Goals as goal
 use Rattle.update_value.specs.Value.{limited}
-use borrow.Author.Rules.{rules}
 
 pub returns : goal.returns
 unfolding limited

@@ -1,7 +1,6 @@
 -- `update_value::next_value` meets its contract by those of its calls. Assumes nothing.
 use Rattle.update_value.proofs.next_value.Goals as goal
 use Rattle.update_value.specs.Value.{next_of}
-use borrow.Author.Rules.{rules}
 
 pub returns : goal.returns
 unfolding next_of
