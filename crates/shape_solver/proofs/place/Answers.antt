@@ -1,7 +1,6 @@
 -- `place` meets its contract. Assumes nothing.
 use Prim.Native.Nat.{ℕ, zero, suc, ◌≤◌}
 use Rattle.shape_solver.proofs.place.Goals as goal
-use borrow.Author.Rules.{rules}
 use lib.Ieee.{Float, nan, div, of_bits}
 use lib.ListN.{length, get_or}
 use mathlib.Core.List.{List, [], ◌∷◌}

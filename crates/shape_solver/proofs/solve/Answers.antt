@@ -1,5 +1,5 @@
 -- `solve` meets its contract. Assumes nothing.
-use Prim.Native.Nat.{ℕ, ◌-◌, ◌≤◌}
+use Prim.Native.Nat.{ℕ}
 use Rattle.lists.proofs.Laws.{overwrite-none, overwrite-more, overwrite-all}
 use Rattle.lists.specs.Lists.{overwrite}
 use Rattle.shape_solver.proofs.solve.Goals as goal

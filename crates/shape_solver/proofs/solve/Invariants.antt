@@ -1,13 +1,10 @@
 -- `solve` meets its contract. Assumes nothing.
-use Prim.Native.Nat.{ℕ, ◌-◌, ◌≤◌}
-use Rattle.lists.proofs.Laws.{overwrite-none, overwrite-more, overwrite-all}
+use Prim.Native.Nat.{◌-◌, ◌≤◌}
 use Rattle.lists.specs.Lists.{overwrite}
 use Rattle.shape_solver.proofs.solve.Given as goal
-use Rattle.shape_solver.specs.Energies.{energy_at, energies_of}
-use borrow.Author.Rules.{rules}
+use Rattle.shape_solver.specs.Energies.{energy_at}
 use lib.ListN.{length}
-use mathlib.Core.Path.{◌≡◌, refl, sym, ap, ◌∙◌}
-use native.Mathlib.Omega.{arith}
+use mathlib.Core.Path.{◌≡◌}
 
 abbrev pub invariant-loop-e : goal.invariant-loop-e
 invariant-loop-e l = (l.e ≤ length l.initial.energies) × (length l.energies ≡ length l.initial.energies) × (l.energies ≡ overwrite (energy_at l.weights l.density) l.e l.initial.energies)
