@@ -1,6 +1,6 @@
 -- A call and a step of the plain run that stand alike: what they read is the same, so their parts, checks and stops are. Assumes nothing.
 use mathlib.Core.Path.{◌≡◌, refl, sym, ap, ◌∙◌}
-use mathlib.Core.Bool.{Bool, true, false, not}
+use mathlib.Core.Bool.{true, false, not}
 use mathlib.Core.List.{List, [], ◌∷◌}
 use Prim.Native.Nat.{suc, ◌≤◌, ◌<◌, min}
 use native.Mathlib.Omega.{arith}

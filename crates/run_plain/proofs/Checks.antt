@@ -1,7 +1,6 @@
 -- Where an opening is not refused before the rows, each of its tests is passed. By the law of the first refusal. Assumes nothing.
 use mathlib.Core.Path.{◌≡◌, refl}
 use mathlib.Core.List.{◌++◌}
-use Rattle.lent.specs.Refusals.{first_of}
 use Rattle.lent.proofs.Refusals.{Passed, passes, front-passes, back_passes}
 use Rattle.run_plain.specs.Opening.{Opening, list_tests, mesh_tests, goal_tests, first_refusal}
 

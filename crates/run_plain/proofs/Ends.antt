@@ -1,7 +1,6 @@
 -- "A run ends exactly where the plain run tries a stop of 01 that applies, by the first in its order, or by a refusal that 01 marks over": of the calls.
 -- Assumes nothing.
-use mathlib.Core.Path.{◌≡◌, refl, sym, ap, ◌∙◌, subst}
-use mathlib.Core.Bool.{true}
+use mathlib.Core.Path.{◌≡◌, sym, ap, ◌∙◌, subst}
 use mathlib.Core.List.{List, map}
 use Rattle.lists.specs.Lists.{choose}
 use Rattle.run_plain.specs.declared.Entry.TheVariants.{Opens}
@@ -9,9 +8,9 @@ use Rattle.run_plain.specs.declared.Phase.{Phase}
 use Rattle.run_plain.specs.declared.State.{State}
 use Rattle.run_plain.specs.Lent.{Sizes}
 use Rattle.run_plain.specs.Opening.{entry_of}
-use Rattle.run_plain.specs.Plain.{Part, nothing, Out, Answer, Run, answered, plain_start, run_from}
+use Rattle.run_plain.specs.Plain.{nothing, Run, answered, plain_start, run_from}
 use Rattle.run_plain.specs.Runs.{Ended}
-use Rattle.run_plain.specs.Calls.{Asked, Lists, World, Call, sound, part_in, part_of, opening_of, lend, result_of, world_after, out_of, fed, NoRun, world_open, world_from}
+use Rattle.run_plain.specs.Calls.{Asked, Lists, World, Call, part_in, part_of, opening_of, lend, result_of, world_after, fed, NoRun, world_open, world_from}
 use Rattle.run_plain.specs.Demand.{Stands, EndsAt}
 use Rattle.run_plain.proofs.Alike.{Sim, Alike}
 use Rattle.run_plain.proofs.Whole.{answer-is, open-sim, in-turn, sim-from, stands, closed-passes}

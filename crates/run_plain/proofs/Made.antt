@@ -1,12 +1,10 @@
 -- "makes just the reckonings in its records": as many kept volumes are evaluated as the records tell. Assumes nothing.
-use mathlib.Core.Path.{◌≡◌, refl, sym, ap, ◌∙◌}
+use mathlib.Core.Path.{◌≡◌, sym, ap, ◌∙◌}
 use mathlib.Core.List.{List, [], ◌∷◌, ◌++◌}
 use Prim.Native.Nat.{ℕ, suc, ◌+◌}
 use native.Mathlib.Omega.{arith}
 use lib.ListN.{length}
-use lib.Ieee.{Float}
 use Rattle.topo.specs.declared.Iteration.{Iteration}
-use Rattle.update_rates.specs.Tried.{reckonings}
 use Rattle.update_rates.proofs.Tried.{passes-reckoned}
 use Rattle.run_plain.specs.declared.Verdict.{Verdict}
 use Rattle.run_plain.specs.declared.Verdict.TheVariants.{Kept, Over, Halts, Begins, Solves}
@@ -14,7 +12,7 @@ use Rattle.run_plain.specs.declared.Course.{Course}
 use Rattle.run_plain.specs.declared.Course.TheVariants.{Onward, Ends}
 use Rattle.run_plain.specs.Formulas.{given_at, update_at, record_at}
 use Rattle.run_plain.specs.Opening.{Opening, case_of}
-use Rattle.run_plain.specs.Plain.{Answer, Row, in_order, judged, first_stop, Run, plain_start, asked_of, updated, stops_of, onward, checks_of, after, answered, run_from}
+use Rattle.run_plain.specs.Plain.{Answer, in_order, judged, first_stop, Run, plain_start, asked_of, updated, stops_of, onward, checks_of, after, answered, run_from}
 use Rattle.run_plain.specs.Runs.{made_by, made, recorded_in}
 
 recorded_more : (l : List Iteration) (e : Iteration) → recorded_in (l ++ (e ∷ [])) ≡ recorded_in l + e.passes

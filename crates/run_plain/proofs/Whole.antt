@@ -256,7 +256,7 @@ from_is l₀ r s l [] m = refl
 from_is l₀ r s l (c ∷ more) m =
     let a : Alike l₀ l (answer_of s c.arguments c.lent.work (lend c.lent l)) (answered r (fed l₀ c)) = answer-is l₀ r s l c m in
     let v = world_after l (answer_of s c.arguments c.lent.work (lend c.lent l)) in
-    let e : calls_from v more ≡ plain_from (answered r (fed l₀ c)).run (map (fed l₀) more) = from_is l₀ _ _ _ more a.sim in
+    let e : calls_from v more ≡ plain_from (answered r (fed l₀ c)).run (map (fed l₀) more) = from_is l₀ (answered r (fed l₀ c)).run v.state v.lists more a.sim in
     λ i. record { out = a.out i; left = shown (a.sim.history i) (a.sim.design i) } ∷ e i
 
 -- after a refused opening every answer gets 20
@@ -373,7 +373,9 @@ pub sim-from : (l₀ : Lists) (r : Run) (s : State) (l : Lists) (more : List Cal
     → Sim l₀ (run_from r (map (fed l₀) more)) (world_from (record { state = s; lists = l }) more).state (world_from (record { state = s; lists = l }) more).lists
 unfolding run_from world_from
 sim-from l₀ r s l [] m = m
-sim-from l₀ r s l (c ∷ more) m = sim-from l₀ _ _ _ more (answer-is l₀ r s l c m).sim
+sim-from l₀ r s l (c ∷ more) m =
+    let v = world_after l (answer_of s c.arguments c.lent.work (lend c.lent l)) in
+    sim-from l₀ (answered r (fed l₀ c)).run v.state v.lists more (answer-is l₀ r s l c m).sim
 
 pub stands : (l₀ : Lists) (r : Run) (s : State) (l : Lists) → Sim l₀ r s l → Stands (record { state = s; lists = l }) r
 stands l₀ r s l m =
@@ -395,7 +397,8 @@ unfolding world_from
 shut-stays s l [] h = h
 shut-stays s l (c ∷ more) h =
     let e : answer_of s c.arguments c.lent.work (lend c.lent l) ≡ keeps s 20 (lend c.lent l) = refused-shut s c.arguments c.lent.work (lend c.lent l) h in
-    shut-stays _ _ more (subst (λ (x : Result). NoRun x.state) (sym e) h)
+    let v = world_after l (answer_of s c.arguments c.lent.work (lend c.lent l)) in
+    shut-stays v.state v.lists more (subst (λ (x : Result). NoRun x.state) (sym e) h)
 
 -- an opening that is refused leaves no run open
 pub refused-stands : (w : World) (k : Sizes) (g : Asked) (more : List Call) → NoRun w.state → (entry_of (opening_of g k.work (lend k w.lists)) ≡ Opens → ⊥) → NoRun (world_from (world_open w k g) more).state
