@@ -1,7 +1,6 @@
 -- `filter_look::dist2` meets its contract as it stands. Assumes nothing.
 use Rattle.filter_look.proofs.dist2.Goals as goal
 use Rattle.geom.specs.Vectors.{less, dot, len2}
-use borrow.Author.Rules.{rules}
 use mathlib.Core.Path.{refl}
 
 pub returns : goal.returns
