@@ -1,14 +1,11 @@
 -- `update_design::copy` meets its contract: the places passed are filled. Assumes nothing.
-use Prim.Native.Nat.{◌-◌, ◌≤◌}
 use Rattle.lists.proofs.Filled.{stored, filled}
 use Rattle.lists.proofs.Laws.{overwrite-none}
-use Rattle.lists.specs.Lists.{overwrite}
 use Rattle.update_design.proofs.Copied.{tabulate_get_d}
 use Rattle.update_design.proofs.copy.Goals as goal
 use borrow.Author.Rules.{rules}
 use lib.Ieee.{nan}
-use lib.ListN.{length, get_or}
-use mathlib.Core.Path.{◌≡◌, refl, sym, ◌∙◌}
+use mathlib.Core.Path.{refl, sym, ◌∙◌}
 use native.Mathlib.Omega.{arith}
 
 pub loop-i-init : goal.loop-i-init

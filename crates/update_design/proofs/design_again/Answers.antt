@@ -1,20 +1,18 @@
 -- `update_design::design_again` meets its contract: the places passed are filled, and where all were equal they are as they were lent. Assumes nothing.
-use Prim.Native.Nat.{ℕ, ◌-◌, ◌≤◌, ◌<◌}
 use Rattle.ieee.proofs.Basic.{holds}
 use Rattle.ieee_lanes.proofs.Same.{eq-same}
 use Rattle.lists.proofs.Filled.{unwritten, stored, filled}
 use Rattle.lists.proofs.Laws.{overwrite-none, both, tabulate-same}
-use Rattle.lists.specs.Lists.{overwrite, zero64}
+use Rattle.lists.specs.Lists.{zero64}
 use Rattle.update_design.proofs.Copied.{tabulate_get_d}
 use Rattle.update_design.proofs.design_again.Goals as goal
 use Rattle.update_design.specs.Design.{design_at}
-use Rattle.update_value.specs.Value.{next_of}
 use borrow.Author.Count.{below_more}
 use borrow.Author.Rules.{rules}
 use lib.Ieee.{nan, eq, ne, binary64, fits}
-use lib.ListN.{length, get_or}
-use mathlib.Core.Bool.{true, false, ◌&&◌}
-use mathlib.Core.Path.{◌≡◌, refl, sym, ◌∙◌}
+use lib.ListN.{get_or}
+use mathlib.Core.Bool.{◌&&◌}
+use mathlib.Core.Path.{refl, sym, ◌∙◌}
 use native.Mathlib.Omega.{arith}
 
 pub loop-i-init : goal.loop-i-init
@@ -30,12 +28,12 @@ loop-i-preserved c = let l = c.loop-i in
       λ e.
           let p = both l.same (eq v.result old && ne v.result zero64) e in
           let q = both (eq v.result old) (ne v.result zero64) p.1 in
-          below_more _ _ (l.invariant.3 p.0) (sym v.ensures ∙ eq-same v.result old (holds (fits binary64 v.result) v.type-inv) (c.slice_known-in-loop-i-1.given l.i) q.0 q.1 ∙ unwritten _ _ _ _ l.invariant.2 nan),
+          below_more _ _ (l.invariant.3 p.0) (sym v.ensures ∙ eq-same v.result old (holds (fits binary64 v.result) v.type_inv) (search rules) q.0 q.1 ∙ unwritten _ _ _ _ l.invariant.2 nan),
     )
 
 pub returns : goal.returns
 unfolding design_at
 returns c = let l = c.loop-i in (
-      filled _ _ _ _ l.invariant.2 _ (omega arith) (omega arith),
-      λ e. filled _ _ _ _ l.invariant.2 _ (omega arith) refl ∙ tabulate-same _ _ _ (λ k h. l.invariant.3 e k (omega arith)) ∙ tabulate_get_d _ nan,
-    )
+  filled _ _ _ _ l.invariant.2 _ (omega arith) (omega arith),
+  λ e. filled _ _ _ _ l.invariant.2 _ (omega arith) refl ∙ tabulate-same _ _ _ (λ k h. l.invariant.3 e k (omega arith)) ∙ tabulate_get_d _ nan,
+)

@@ -1,15 +1,10 @@
 -- `update_design::gains` meets its contract: the places passed are filled. Assumes nothing.
-use Prim.Native.Nat.{◌-◌, ◌≤◌}
 use Rattle.lists.proofs.Filled.{stored, filled}
 use Rattle.lists.proofs.Laws.{overwrite-none}
-use Rattle.lists.specs.Lists.{overwrite}
 use Rattle.update_design.proofs.gains.Goals as goal
 use Rattle.update_design.specs.Design.{gains_of}
-use Rattle.update_value.specs.Value.{gain_of}
 use borrow.Author.Rules.{rules}
-use lib.Ieee.{nan}
-use lib.ListN.{length, get_or}
-use mathlib.Core.Path.{◌≡◌, refl, sym}
+use mathlib.Core.Path.{refl, sym}
 use native.Mathlib.Omega.{arith}
 
 pub loop-i-init : goal.loop-i-init

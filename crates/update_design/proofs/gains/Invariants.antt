@@ -1,16 +1,11 @@
 -- `update_design::gains` meets its contract: the places passed are filled. Assumes nothing.
 use Prim.Native.Nat.{◌-◌, ◌≤◌}
-use Rattle.lists.proofs.Filled.{stored, filled}
-use Rattle.lists.proofs.Laws.{overwrite-none}
 use Rattle.lists.specs.Lists.{overwrite}
 use Rattle.update_design.proofs.gains.Given as goal
-use Rattle.update_design.specs.Design.{gains_of}
 use Rattle.update_value.specs.Value.{gain_of}
-use borrow.Author.Rules.{rules}
 use lib.Ieee.{nan}
 use lib.ListN.{length, get_or}
-use mathlib.Core.Path.{◌≡◌, refl, sym}
-use native.Mathlib.Omega.{arith}
+use mathlib.Core.Path.{◌≡◌}
 
 abbrev pub invariant-loop-i : goal.invariant-loop-i
 invariant-loop-i l = (l.i ≤ length l.dc) × (length l.gain ≡ length l.initial.gain) × (l.gain ≡ overwrite (λ k. gain_of (get_or l.dc k nan) (get_or l.dv k nan)) l.i l.initial.gain)

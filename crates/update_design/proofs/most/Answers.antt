@@ -1,15 +1,10 @@
 -- `update_design::most` meets its contract: the most so far is the fold over the places passed. Assumes nothing.
-use Prim.Native.Nat.{◌-◌, ◌≤◌}
-use Rattle.ieee.specs.Basic.{max_of}
 use Rattle.lists.proofs.Laws.{fold_to-none, fold_to-more}
-use Rattle.lists.specs.Lists.{fold_to, choose, zero64}
+use Rattle.lists.specs.Lists.{fold_to}
 use Rattle.update_design.proofs.most.Goals as goal
 use Rattle.update_design.specs.Design.{most_of}
 use borrow.Author.Rules.{rules}
-use lib.Ieee.{nan}
-use lib.ListN.{length, get_or}
-use mathlib.Core.Bool.{false}
-use mathlib.Core.Path.{◌≡◌, sym, ap, ◌∙◌}
+use mathlib.Core.Path.{sym, ap, ◌∙◌}
 use native.Mathlib.Omega.{arith}
 
 pub loop-i-init : goal.loop-i-init

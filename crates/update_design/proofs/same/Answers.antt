@@ -1,14 +1,11 @@
 -- `update_design::same` meets its contract: whether any place passed differs. Assumes nothing.
-use Prim.Native.Nat.{◌-◌, ◌≤◌}
 use Rattle.lists.proofs.Laws.{any_none, any_step}
 use Rattle.lists.specs.Lists.{any_to}
 use Rattle.update_design.proofs.same.Goals as goal
 use Rattle.update_design.specs.Design.{same_design}
 use borrow.Author.Rules.{rules}
-use lib.Ieee.{nan, ne}
-use lib.ListN.{length, get_or}
 use mathlib.Core.Bool.{not}
-use mathlib.Core.Path.{◌≡◌, sym, ap, ◌∙◌}
+use mathlib.Core.Path.{sym, ap, ◌∙◌}
 use native.Mathlib.Omega.{arith}
 
 pub loop-i-init : goal.loop-i-init
