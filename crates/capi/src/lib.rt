@@ -115,7 +115,7 @@ pub extern "C" fn sokdrib_from_bits(n: u64) -> f64
     ieee_bits::from_bits(n)
 }
 
-// A key whose order is IEEE 754's total_order.
+// A key whose order is IEEE 754's totalOrder.
 #[unsafe(no_mangle)]
 pub extern "C" fn sokdrib_total_key(x: f64) -> u64
     ensures { result ≡ total_key x }

@@ -1,4 +1,4 @@
--- The key of total_order goes as `precedes` does. The pattern of a magnitude grows with it, since the digits kept of a longer one begin with a 1; a minus turns patterns round.
+-- The key of totalOrder goes as `precedes` does. The pattern of a magnitude grows with it, since the digits kept of a longer one begin with a 1; a minus turns patterns round.
 -- Assumes nothing.
 use Prim.Native.Nat.{ℕ, zero, suc, ◌+◌, ◌-◌, ◌*◌, ◌/◌, ◌%◌, ◌^◌, ◌≤◌, ◌<◌}
 use mathlib.Core.Path.{◌≡◌, refl, sym, ap, ◌∙◌, subst}
@@ -141,7 +141,7 @@ module _ (m n : ℕ) (e d : ℤ) where
   minus_minus fm fn true h = first (fin true m e) (fin true n d) (omega (arith, key-minus m e, key-minus n d, bits_small true m e fm, bits-lt true true n m d e fn fm (ltb-true _ _ h)))
   minus_minus fm fn false h = later (fin true m e) (fin true n d) (omega (arith, key-minus m e, key-minus n d, bits-le m n e d (ltb-false _ _ h)))
 
--- the key goes as total_order does
+-- the key goes as totalOrder does
 pub precedes_key : (x y : Float) → T (fits binary64 x) → T (fits binary64 y) → precedes x y ≡ ltb (total_key x) (total_key y)
 unfolding precedes lt eq is_nan
 precedes_key (fin false m e) (fin false n d) fx fy = plus-plus m n e d fx fy _ refl
@@ -167,7 +167,7 @@ precedes_key (fin true m e) (inf false) fx fy = first (fin true m e) (inf false)
 precedes_key (fin false m e) (inf true) fx fy = later (fin false m e) (inf true) (omega (arith, key-inf true, (key-between false m e fx).0))
 precedes_key (fin true m e) (inf true) fx fy = later (fin true m e) (inf true) (omega (arith, key-inf true, (key-between true m e fx).0))
 
--- the smaller key exactly where total_order has the float before the other
+-- the smaller key exactly where totalOrder has the float before the other
 pub key-order : (x y : Float) → T (fits binary64 x) → T (fits binary64 y) → (total_key x < total_key y) ↔ T (precedes x y)
 key-order x y fx fy = (
   λ (h : total_key x < total_key y). subst T (sym (precedes_key x y fx fy)) (lt→ltb (total_key x) (total_key y) h),

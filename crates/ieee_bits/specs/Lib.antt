@@ -1,2 +1,2 @@
--- `Bits` has IEEE 754's total_order.
+-- `Bits` has IEEE 754's totalOrder.
 pub mod Bits

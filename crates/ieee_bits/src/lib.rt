@@ -1,4 +1,4 @@
-// Bit patterns of every float, NaN included, and the key of total_order.
+// Bit patterns of every float, NaN included, and the key of totalOrder.
 #![tactic(auto)]
 
 ghost use Rattle.std.specs.Prelude.{◌≡◌};
@@ -26,7 +26,7 @@ pub fn from_bits(b: u64) -> f64
     f64::from_bits(b)
 }
 
-// The place of x in total_order, as a number.
+// The place of x in totalOrder, as a number.
 pub fn total_key(x: f64) -> u64
     ensures { result ≡ total_key x }
 {

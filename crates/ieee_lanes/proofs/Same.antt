@@ -1,4 +1,4 @@
--- Two floats that are equal and no zeros are one: neither precedes the other in total_order, and a key of that order is one float's. Assumes nothing.
+-- Two floats that are equal and no zeros are one: neither precedes the other in totalOrder, and a key of that order is one float's. Assumes nothing.
 use mathlib.Core.Path.{◌≡◌, refl, sym, ◌∙◌}
 use mathlib.Core.Bool.{Bool, true, false, not, ◌&&◌, ◌||◌, beq}
 use Prim.Native.Nat.{ℕ, ◌*◌, ◌≤◌, ◌<◌}

@@ -42,7 +42,7 @@ coordinate zero p = p.x
 coordinate (suc zero) p = p.y
 coordinate (suc (suc a)) p = p.z
 
--- 01: "The tree orders by IEEE total_order": the keys of all middles along an axis
+-- 01: "The tree orders by IEEE totalOrder": the keys of all middles along an axis
 unfoldable pub keys_along : ℕ → List (List Float) → List ℕ
 keys_along a faces = map (λ t. total_key (coordinate a (middle_of (corners_of t)))) faces
 
