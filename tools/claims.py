@@ -30,8 +30,8 @@ from sources import SIGNS, Scope, comments, crates, defined, names_of, place, qu
 WORDS = {
     "requires": "a word of the language",
     "u64": "a type of the language",
-    "toBits": "of the kit's floats",
-    "ofBits": "of the kit's floats",
+    "to_bits": "of the kit's floats",
+    "of_bits": "of the kit's floats",
     "optimize": "the Rust's: here a run",
     "Stop::word": "the Rust's, left out",
 }

@@ -49,7 +49,8 @@ def rt(text):
     return names
 
 
-crates = [m[1] for m in re.finditer(r"^(\w+):", read("crates.txt"), re.M)]
+# A line of crates.txt is `NAME: LIBRARY ..`, of a static library `NAME staticlib: LIBRARY ..`.
+crates = [m[1] for m in re.finditer(r"^(\w+)(?: [\w=+]+)*:", read("crates.txt"), re.M)]
 defined = {}
 for p in sorted(root.glob("crates/*/*/**/*")):
     if p.suffix in (".antt", ".rt"):
