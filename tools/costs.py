@@ -49,7 +49,7 @@ def what(pid):
 def watch(top, file):
     seen, ended = {}, []
     signal.signal(signal.SIGTERM, lambda *_: ended.append(True))
-    while not ended:
+    while not ended and os.path.exists(f"/proc/{top}"):
         all_of = processes()
         below = {top}
         # A parent's number may be higher than its child's.
