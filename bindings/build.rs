@@ -1,4 +1,4 @@
-//! Links the proved library, libcapi.a, which `rt staticlib capi` writes. SOKDRIB_LIB_DIR names its folder, else it is
+//! Links the proved library, libcapi.a, which `tools/library` writes. SOKDRIB_LIB_DIR names its folder, else it is
 //! target/staticlib of the repository.
 use std::env;
 use std::path::PathBuf;
@@ -11,7 +11,7 @@ fn main() {
     let library = folder.join("libcapi.a");
     println!("cargo::rerun-if-changed={}", library.display());
     if !library.is_file() {
-        println!("cargo::error=there is no {}: run `rt staticlib capi`, or name its folder in SOKDRIB_LIB_DIR", library.display());
+        println!("cargo::error=there is no {}: run tools/library, or name its folder in SOKDRIB_LIB_DIR", library.display());
     }
     println!("cargo::rustc-link-search=native={}", folder.display());
     println!("cargo::rustc-link-lib=static=capi");

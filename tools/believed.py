@@ -18,7 +18,7 @@ BEGIN, END = "<!-- tools/believed.py: begin -->\n", "<!-- tools/believed.py: end
 def leads_to(file):
     """The files of definitions that one names, and the sources whose types it names."""
     found = []
-    for crate, path in re.findall(r"^use Rattle·(\w+)(?:·specs\.specs|\.specs)\.([\w.]+)", file.read_text(encoding="utf-8"), re.M):
+    for crate, path in re.findall(r"^(?:pub )?use Rattle\.(\w+)\.specs\.([\w.]+)", file.read_text(encoding="utf-8"), re.M):
         parts = path.rstrip(".").split(".")
         if parts[0] == "declared":
             found.append(ROOT / "crates" / crate / "src")
@@ -32,7 +32,8 @@ def leads_to(file):
 
 
 def lines(file):
-    return sum(1 for line in file.read_text(encoding="utf-8").splitlines() if line.strip() and not line.startswith("use "))
+    text = re.sub(r"^(?:pub )?use .*\n(?:[ }].*\n)*", "", file.read_text(encoding="utf-8"), flags=re.M)
+    return sum(1 for line in text.splitlines() if line.strip())
 
 
 order, types = list(START), []

@@ -30,8 +30,8 @@ from sources import SIGNS, Scope, comments, crates, defined, names_of, place, qu
 WORDS = {
     "requires": "a word of the language",
     "u64": "a type of the language",
-    "toBits": "of the kit's floats",
-    "ofBits": "of the kit's floats",
+    "to_bits": "of the kit's floats",
+    "of_bits": "of the kit's floats",
     "optimize": "the Rust's: here a run",
     "Stop::word": "the Rust's, left out",
 }
@@ -110,6 +110,8 @@ def told(text, strict):
                 beside.append(name.split(" ")[0])
             elif strict:
                 homes = [f for f in defined if f.split("/")[1] in named and name in defined[f]]
+                # An answer to a goal may have a theorem's name.
+                homes = [f for f in homes if not f.endswith(("/Answers.antt", "/Invariants.antt"))] or homes
                 homes = [f for f in homes if "/specs/" in f] or homes
                 names.append((name, name, homes[:1]))
                 faults += [f"`{name}` wants its file: one of {', '.join(homes)}"] if len(homes) > 1 else []

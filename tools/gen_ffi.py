@@ -4,7 +4,7 @@
     tools/gen_ffi.py            write bindings/include/sokdrib.h and bindings/src/ffi.rs
     tools/gen_ffi.py --check    write nothing; fail where one of them is not what would be written
 
-Reads every `#[no_mangle] pub extern "C" fn` of crates/capi/src and the `#[repr(C)]` structs that these name, wherever in crates/
+Reads every `#[unsafe(no_mangle)] pub extern "C" fn` of crates/capi/src and the `#[repr(C)]` structs that these name, wherever in crates/
 they stand, each with the comment above it. It knows the forms that an exported function may have: numbers, bool, such structs by
 value, & and &mut of a number or an array, and slices, which are a pointer and a count of elements. Any other form is an error. The
 header's comment on refusals is the section "Refusals" of docs/API.md.
@@ -27,6 +27,12 @@ NUMBERS = {
 }
 # parameter names that C, or a compiler's headers, keep for themselves
 C_WORDS = {"near", "far", "int", "char", "short", "long", "double", "float", "signed", "auto", "register", "default", "switch", "case", "goto"}
+
+
+# the comment and the attributes above an item, these on one line each or over several
+COMMENT = r"((?:^//[^\n]*\n)*)"
+ATTRIBUTES = r"((?:^#\[(?:[^\n]*\]|[^\n]*\n(?:[ \t][^\n]*\n)*\)\])\n)+)"
+EXPORT = "#[unsafe(no_mangle)]"
 
 
 def fail(why):
@@ -68,26 +74,28 @@ def said(comment):
 def read_structs():
     """Every #[repr(C)] struct below crates/: its fields, and the comment above it, by its name."""
     found, above = {}, {}
-    shape = r"((?:^//[^\n]*\n)*)^#\[repr\(C\)\]\s*pub struct (\w+)\s*\{(.*?)\}"
+    shape = COMMENT + ATTRIBUTES + r"pub struct (\w+)\s*\{(.*?)\}"
     for file in sorted((ROOT / "crates").glob("*/src/**/*.rt")):
         for m in re.finditer(shape, file.read_text(encoding="utf-8"), re.S | re.M):
-            if m[2] in found:
-                fail(f"two #[repr(C)] structs are called {m[2]}")
-            found[m[2]], above[m[2]] = [named(f) for f in split(code(m[3]))], said(m[1])
+            if "#[repr(C)]" not in m[2]:
+                continue
+            if m[3] in found:
+                fail(f"two #[repr(C)] structs are called {m[3]}")
+            found[m[3]], above[m[3]] = [named(f) for f in split(code(m[4]))], said(m[1])
     return found, above
 
 
 def read_functions():
     """Every export of capi in order, lib.rt first: (name, the comment above it, [(parameter, type)], result type or None)."""
     found = []
-    shape = r'((?:^//[^\n]*\n)*)^#\[no_mangle\]\s*pub extern "C" fn (\w+)\s*\((.*?)\)\s*(?:->\s*([\w:]+))?\s*(?=requires|ensures|\{)'
+    shape = COMMENT + ATTRIBUTES + r'pub extern "C" fn (\w+)\s*\((.*?)\)\s*(?:->\s*([\w:]+))?\s*(?=requires|ensures|\{)'
     for file in sorted((ROOT / "crates/capi/src").glob("**/*.rt"), key=lambda f: (f.name != "lib.rt", f)):
         text = file.read_text(encoding="utf-8")
-        exports = list(re.finditer(shape, text, re.S | re.M))
-        if len(exports) != code(text).count("#[no_mangle]"):
+        exports = [m for m in re.finditer(shape, text, re.S | re.M) if EXPORT in m[2]]
+        if len(exports) != code(text).count(EXPORT):
             fail(f"{file.name} has an export of a form that is not known")
         for m in exports:
-            found.append((m[2], said(m[1]), [named(p) for p in split(code(m[3]))], m[4] and m[4].split("::")[-1]))
+            found.append((m[3], said(m[1]), [named(p) for p in split(code(m[4]))], m[5] and m[5].split("::")[-1]))
     return found
 
 

@@ -49,9 +49,11 @@ def rt(text):
     return names
 
 
-crates = [m[1] for m in re.finditer(r"^(\w+):", read("crates.txt"), re.M)]
+# A line of crates.txt is `NAME: LIBRARY ..`, of a static library `NAME staticlib: LIBRARY ..`.
+crates = [m[1] for m in re.finditer(r"^(\w+)(?: [\w=+]+)*:", read("crates.txt"), re.M)]
 defined = {}
-for p in sorted(root.glob("crates/*/*/**/*")):
+# (In crates/*/out stand copies that rt makes.)
+for p in sorted(p for part in ("src", "specs", "proofs") for p in root.glob(f"crates/*/{part}/**/*")):
     if p.suffix in (".antt", ".rt"):
         defined[str(p.relative_to(root))] = (antt if p.suffix == ".antt" else rt)(p.read_text(encoding="utf-8"))
 names_of = {c: set().union(*(names for f, names in defined.items() if f.startswith(f"crates/{c}/"))) for c in crates}
