@@ -1,0 +1,68 @@
+-- `keep` writes in its list alone. Assumes nothing.
+use borrow.Author.Rules.{rules}
+use mathlib.Core.Path.{◌≡◌}
+use Prim.Native.Nat.{◌-◌, ◌≤◌}
+use lib.ListN.{length}
+use Rattle.shape.proofs.keep.Statement.{statement}
+use Rattle.shape.proofs.keep.Tie as tie
+
+abbrev invariant-loop : tie.invariant-loop
+invariant-loop kept₀ at part n i₀ kept i = (i ≤ n) × (length kept ≡ length kept₀)
+
+abbrev decreases-loop : tie.decreases-loop
+decreases-loop kept₀ at part n i₀ kept i = n - i
+
+sub-least : tie.Need-overflow-sub-least invariant-loop decreases-loop
+sub-least c = search rules
+
+least-requires : tie.Need-least-requires invariant-loop decreases-loop
+least-requires c κs = search rules
+
+loop-holds : tie.Need-loop-init invariant-loop decreases-loop
+loop-holds c = search rules
+
+shared-slice-read-kept : tie.Need-shared-slice-read-kept invariant-loop decreases-loop
+shared-slice-read-kept c = search rules
+
+add_kept : tie.Need-overflow-add-kept invariant-loop decreases-loop
+add_kept c = search rules
+
+slice-write-kept : tie.Need-slice-write-kept invariant-loop decreases-loop
+slice-write-kept c = search rules
+
+add-i : tie.Need-overflow-add-i invariant-loop decreases-loop
+add-i c = search rules
+
+loop-less : tie.Need-loop-smaller invariant-loop decreases-loop
+loop-less c = search rules
+
+loop-again : tie.Need-loop-preserved invariant-loop decreases-loop
+loop-again c = search rules
+
+add-result : tie.Need-overflow-add-result invariant-loop decreases-loop
+add-result c = search rules
+
+same_length : tie.Need-same-length invariant-loop decreases-loop
+same_length c = search rules
+
+returns : tie.Need-returns invariant-loop decreases-loop
+returns c = search rules
+
+pub keep_spec : {M : Type 1} → statement M
+keep_spec =
+    tie.close
+    (tie.spec
+    invariant-loop
+    decreases-loop
+    sub-least
+    least-requires
+    loop-holds
+    shared-slice-read-kept
+    add_kept
+    slice-write-kept
+    add-i
+    loop-less
+    loop-again
+    add-result
+    same_length
+    returns)
