@@ -70,7 +70,7 @@ fn mark(
     place: &mut [u32],
     first: &mut [u32],
 )
-    requires { Fitting (record { nodes = nodes.now; tets = tets.now; tris = tris.now; surfaces = surfaces.now; held = held.now; loaded = loaded.now; starts = starts.now; kept = kept.now; depths = depths.now }) (record { marks = marks.now; keep = keep.old; centroids = centroids.old; cells = cells.old; order = order.old; place = place.old; first = first.old }) }
+    requires { Fitting (record { nodes = nodes.now; tets = tets.now; tris = tris.now; surfaces = surfaces.now; held = held.now; loaded = loaded.now; starts = starts.now; kept = kept.now; depths = depths.now }) (record { marks = marks.old; keep = keep.old; centroids = centroids.old; cells = cells.old; order = order.old; place = place.old; first = first.old }) }
     ensures { marks.new ≡ tabulate (passive_at (record { nodes = nodes.now; tets = tets.now; tris = tris.now; surfaces = surfaces.now; held = held.now; loaded = loaded.now; starts = starts.now; kept = kept.now; depths = depths.now })) (length tets.now) }
 {
     region_by_nodes::by_nodes(
@@ -113,7 +113,7 @@ pub fn mark_front(
     place: &mut [u32],
     first: &mut [u32],
 )
-    requires { Roomy (record { nodes = nodes.now; tets = tets.now; tris = tris.now; surfaces = surfaces.now; held = held.now; loaded = loaded.now; starts = starts.now; kept = kept.now; depths = depths.now }) (record { marks = marks.now; keep = keep.old; centroids = centroids.old; cells = cells.old; order = order.old; place = place.old; first = first.old }) }
+    requires { Roomy (record { nodes = nodes.now; tets = tets.now; tris = tris.now; surfaces = surfaces.now; held = held.now; loaded = loaded.now; starts = starts.now; kept = kept.now; depths = depths.now }) (record { marks = marks.old; keep = keep.old; centroids = centroids.old; cells = cells.old; order = order.old; place = place.old; first = first.old }) }
     ensures marks_after { marks.new ≡ overwrite (passive_at (record { nodes = nodes.now; tets = tets.now; tris = tris.now; surfaces = surfaces.now; held = held.now; loaded = loaded.now; starts = starts.now; kept = kept.now; depths = depths.now })) (length tets.now) marks.old }
     ensures past { Past (record { nodes = nodes.now; tets = tets.now; tris = tris.now; surfaces = surfaces.now; held = held.now; loaded = loaded.now; starts = starts.now; kept = kept.now; depths = depths.now }) (record { marks = marks.old; keep = keep.old; centroids = centroids.old; cells = cells.old; order = order.old; place = place.old; first = first.old }) (record { marks = marks.new; keep = keep.new; centroids = centroids.new; cells = cells.new; order = order.new; place = place.new; first = first.new }) }
 {

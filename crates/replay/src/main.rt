@@ -10,102 +10,109 @@ mod runs;
 mod tables;
 mod updates;
 
-use libc::STDOUT_FILENO;
 use replay_sample::tell::Totals;
 use replay_sample::words::word;
+use std::io;
+use std::io::Read;
 
 // No sample has more sections.
 const SECTIONS: u64 = 100;
 
 // Works out one case of a function, and answers whether it is as recorded.
-fn case(function: u64) -> bool {
+fn case(sample: &mut impl Read, function: u64) -> bool {
     match function {
-        1 => leaves::sqrt(),
-        2 => leaves::tanh(),
-        3 => leaves::max(),
-        4 => leaves::min(),
-        5 => leaves::clamp(),
-        6 => leaves::floor_at(),
-        7 => leaves::round_half_away(),
-        8 => leaves::level_of(),
-        9 => leaves::modulus(),
-        10 => leaves::image(),
-        11 => leaves::dist2_to_triangle(),
-        12 => leaves::project(),
-        13 => leaves::no_room(),
-        14 => products::apply(),
-        15 => products::back(),
-        16 => updates::update(),
-        17 => meshes::tetrahedron(),
-        18 => tables::unmirrored(),
-        19 => tables::mirrored(),
-        20 => runs::unmirrored(),
-        21 => runs::mirrored(),
-        22 => regions::off_centre(),
+        1 => leaves::sqrt(sample),
+        2 => leaves::tanh(sample),
+        3 => leaves::max(sample),
+        4 => leaves::min(sample),
+        5 => leaves::clamp(sample),
+        6 => leaves::floor_at(sample),
+        7 => leaves::round_half_away(sample),
+        8 => leaves::level_of(sample),
+        9 => leaves::modulus(sample),
+        10 => leaves::image(sample),
+        11 => leaves::dist2_to_triangle(sample),
+        12 => leaves::project(sample),
+        13 => leaves::no_room(sample),
+        14 => products::apply(sample),
+        15 => products::back(sample),
+        16 => updates::update(sample),
+        17 => meshes::tetrahedron(sample),
+        18 => tables::unmirrored(sample),
+        19 => tables::mirrored(sample),
+        20 => runs::unmirrored(sample),
+        21 => runs::mirrored(sample),
+        22 => regions::off_centre(sample),
         _ => false,
     }
 }
 
-fn name(function: u64) {
+fn name(function: u64) -> &'static str {
     match function {
-        1 => io::write_all(STDOUT_FILENO, b"sqrt"),
-        2 => io::write_all(STDOUT_FILENO, b"tanh"),
-        3 => io::write_all(STDOUT_FILENO, b"max"),
-        4 => io::write_all(STDOUT_FILENO, b"min"),
-        5 => io::write_all(STDOUT_FILENO, b"clamp"),
-        6 => io::write_all(STDOUT_FILENO, b"floor_at"),
-        7 => io::write_all(STDOUT_FILENO, b"round_half_away"),
-        8 => io::write_all(STDOUT_FILENO, b"level_of"),
-        9 => io::write_all(STDOUT_FILENO, b"modulus"),
-        10 => io::write_all(STDOUT_FILENO, b"image"),
-        11 => io::write_all(STDOUT_FILENO, b"dist2_to_triangle"),
-        12 => io::write_all(STDOUT_FILENO, b"project"),
-        13 => io::write_all(STDOUT_FILENO, b"no_room"),
-        14 => io::write_all(STDOUT_FILENO, b"apply"),
-        15 => io::write_all(STDOUT_FILENO, b"back"),
-        16 => io::write_all(STDOUT_FILENO, b"update"),
-        17 => io::write_all(STDOUT_FILENO, b"tetrahedron"),
-        18 => io::write_all(STDOUT_FILENO, b"filter"),
-        19 => io::write_all(STDOUT_FILENO, b"filter of two planes"),
-        20 => io::write_all(STDOUT_FILENO, b"run"),
-        21 => io::write_all(STDOUT_FILENO, b"run of a plane"),
-        22 => io::write_all(STDOUT_FILENO, b"off_centre"),
-        _ => io::write_all(STDOUT_FILENO, b"unknown"),
-    };
+        1 => "sqrt",
+        2 => "tanh",
+        3 => "max",
+        4 => "min",
+        5 => "clamp",
+        6 => "floor_at",
+        7 => "round_half_away",
+        8 => "level_of",
+        9 => "modulus",
+        10 => "image",
+        11 => "dist2_to_triangle",
+        12 => "project",
+        13 => "no_room",
+        14 => "apply",
+        15 => "back",
+        16 => "update",
+        17 => "tetrahedron",
+        18 => "filter",
+        19 => "filter of two planes",
+        20 => "run",
+        21 => "run of a plane",
+        22 => "off_centre",
+        _ => "unknown",
+    }
 }
 
 // How many of a section's cases differ.
-fn section(function: u64, count: u64) -> u64 {
+fn section(sample: &mut impl Read, function: u64, count: u64) -> u64 {
     let mut different = 0u64;
     for _i in 0..count {
-        if !case(function) {
-            different = std::num::wrapping_add_u64(different, 1);
+        if !case(sample, function) {
+            different = different.wrapping_add(1);
         }
     }
     different
 }
 
 // Replays one section, writes its line and adds it to the totals.
-fn replayed(t: Totals, function: u64) -> Totals {
-    let count = word();
-    let different = section(function, count);
-    name(function);
-    t.with(count, different)
+fn replayed(
+    sample: &mut impl Read,
+    out: &impl Print,
+    t: Totals,
+    function: u64,
+) -> io::Result<Totals> {
+    let count = word(sample);
+    let different = section(sample, function, count);
+    out.print(name(function))?;
+    t.with(out, count, different)
 }
 
 // A loop has to end, and nothing says that the input does: so the sections are counted.
-fn sections() -> Totals {
+fn sections(sample: &mut impl Read, out: &impl Print) -> io::Result<Totals> {
     let mut t = Totals::none();
     for _i in 0..SECTIONS {
-        let function = word();
+        let function = word(sample);
         if function == 0 {
-            return t;
+            return Ok(t);
         }
-        t = replayed(t, function);
+        t = replayed(sample, out, t, function)?;
     }
-    t
+    Ok(t)
 }
 
-fn main() {
-    replay_sample::tell::total(sections());
+fn main(rt: HostRuntime) -> io::Result<()> {
+    let t = sections(&mut rt.stdin(), &rt)?;
+    replay_sample::tell::total(&rt, t)
 }

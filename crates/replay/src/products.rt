@@ -1,30 +1,31 @@
 // One case of each product with the filter's table, of 12 rows and 48 entries: the table's three lists, the list, then what the Rust gave.
 use replay_sample::read::{are, counts, floats};
+use std::io::Read;
 
-pub fn apply() -> bool {
+pub fn apply(sample: &mut impl Read) -> bool {
     let mut starts = [0u32; 13];
     let mut near = [0u32; 48];
     let mut coef = [0.0; 48];
     let mut x = [0.0; 12];
     let mut out = [0.0; 12];
-    counts(&mut starts);
-    counts(&mut near);
-    floats(&mut coef);
-    floats(&mut x);
+    counts(sample, &mut starts);
+    counts(sample, &mut near);
+    floats(sample, &mut coef);
+    floats(sample, &mut x);
     filter_apply::apply(&starts, &near, &coef, &x, &mut out);
-    are(&out)
+    are(sample, &out)
 }
 
-pub fn back() -> bool {
+pub fn back(sample: &mut impl Read) -> bool {
     let mut starts = [0u32; 13];
     let mut near = [0u32; 48];
     let mut coef = [0.0; 48];
     let mut g = [0.0; 12];
     let mut out = [0.0; 12];
-    counts(&mut starts);
-    counts(&mut near);
-    floats(&mut coef);
-    floats(&mut g);
+    counts(sample, &mut starts);
+    counts(sample, &mut near);
+    floats(sample, &mut coef);
+    floats(sample, &mut g);
     filter_back::back(&starts, &near, &coef, &g, &mut out);
-    are(&out)
+    are(sample, &out)
 }

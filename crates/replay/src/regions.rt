@@ -3,11 +3,12 @@ use geom::Mirror;
 use region_off_centre::Balance;
 use replay_sample::read::{point, points};
 use replay_sample::words::{number, same, word};
+use std::io::Read;
 
-fn is_balance(b: Balance) -> bool {
-    let kind = word();
-    let to = number();
-    let other = number();
+fn is_balance(sample: &mut impl Read, b: Balance) -> bool {
+    let kind = word(sample);
+    let to = number(sample);
+    let other = number(sample);
     match b {
         Balance::Refused(_) => false,
         Balance::Even => kind == 0,
@@ -15,10 +16,13 @@ fn is_balance(b: Balance) -> bool {
     }
 }
 
-pub fn off_centre() -> bool {
+pub fn off_centre(sample: &mut impl Read) -> bool {
     let mut eight = [[0.0; 3]; 8];
-    points(&mut eight);
-    let at = point();
-    let normal = point();
-    is_balance(region_off_centre::off_centre(&eight, Mirror { point: at, normal }))
+    points(sample, &mut eight);
+    let at = point(sample);
+    let normal = point(sample);
+    is_balance(
+        sample,
+        region_off_centre::off_centre(&eight, Mirror { point: at, normal }),
+    )
 }

@@ -3,6 +3,7 @@
 use replay_sample::read::{are, flags, floats, planes, points};
 use replay_sample::words::{number, same, word};
 use run_plain::{Compliances, Heard, Phase, Progress, Reply, Returned, Said, Setting, State};
+use std::io::Read;
 use topo::{Goal, Iteration, Sharpening, Stop};
 
 // The records that a run may make, and more turns than it takes.
@@ -70,9 +71,9 @@ fn is_reply(reply: Reply, kind: u64, n: u64) -> bool {
     }
 }
 
-fn replied(returned: Returned, so_far: bool) -> Replayed {
-    let kind = word();
-    let n = word();
+fn replied(sample: &mut impl Read, returned: Returned, so_far: bool) -> Replayed {
+    let kind = word(sample);
+    let n = word(sample);
     let reply = returned.reply;
     Replayed {
         returned,
@@ -82,16 +83,16 @@ fn replied(returned: Returned, so_far: bool) -> Replayed {
 }
 
 // The record that an answer made, at its place, or none.
-fn is_record(at: usize, r: Iteration) -> bool {
-    let made = word() != 0;
+fn is_record(sample: &mut impl Read, at: usize, r: Iteration) -> bool {
+    let made = word(sample) != 0;
     if made {
-        let n = word();
-        let compliance = same(r.compliance, number());
-        let fraction = same(r.fraction, number());
-        let change = same(r.change, number());
-        let sharpness = same(r.sharpness, number());
-        let grey = same(r.grey, number());
-        let passes = word();
+        let n = word(sample);
+        let compliance = same(r.compliance, number(sample));
+        let fraction = same(r.fraction, number(sample));
+        let change = same(r.change, number(sample));
+        let sharpness = same(r.sharpness, number(sample));
+        let grey = same(r.grey, number(sample));
+        let passes = word(sample);
         return (r.number as u64 == n)
             & ((at as u64) < n)
             & compliance
@@ -105,12 +106,10 @@ fn is_record(at: usize, r: Iteration) -> bool {
 }
 
 // Whether the levels that come are those of the densities.
-fn are_levels(density: &[f64]) -> bool {
+fn are_levels(sample: &mut impl Read, density: &[f64]) -> bool {
     let mut all = true;
-    let mut i = 0usize;
-    while i < density.len() {
-        all = all & (topo::level_of(density[i]) as u64 == word());
-        i += 1usize;
+    for place in density {
+        all = all & (topo::level_of(*place) as u64 == word(sample));
     }
     all
 }
@@ -164,6 +163,7 @@ fn opened(
 
 // The next question and its answer, if one was recorded.
 fn turn(
+    sample: &mut impl Read,
     t: Replayed,
     volumes: &[f64],
     passive: &[bool],
@@ -178,11 +178,11 @@ fn turn(
     if !asked {
         return t;
     }
-    let levels = are_levels(&density[..]);
-    let said = said(word());
-    let flag = word() != 0;
-    let elapsed = word();
-    let allowed = word();
+    let levels = are_levels(sample, &density[..]);
+    let said = said(word(sample));
+    let flag = word(sample) != 0;
+    let elapsed = word(sample);
+    let allowed = word(sample);
     let heard = Heard {
         said,
         flag,
@@ -195,7 +195,7 @@ fn turn(
     let mut spare = [0.0; 8];
     let mut dc = [0.0; 8];
     let mut dv = [0.0; 8];
-    floats(&mut energies);
+    floats(sample, &mut energies);
     let returned = t.returned;
     let s = run_answer::answer_core(
         ROOM,
@@ -217,24 +217,25 @@ fn turn(
         &mut dv,
     );
     let entry = s.entry;
-    let record = is_record(s.at, entry);
+    let record = is_record(sample, s.at, entry);
     let next = s.returned;
-    replied(next, t.same & levels & record)
+    replied(sample, next, t.same & levels & record)
 }
 
 // The end of a run that stopped.
-fn is_end(t: Replayed, last: &[f64]) -> bool {
-    let stopped = word() != 0;
+fn is_end(sample: &mut impl Read, t: Replayed, last: &[f64]) -> bool {
+    let stopped = word(sample) != 0;
     if stopped {
         let returned = t.returned;
         let state = returned.state;
-        let work = same(state.compliances.solid, number());
-        return t.same & work & are(last);
+        let work = same(state.compliances.solid, number(sample));
+        return t.same & work & are(sample, last);
     }
     t.same
 }
 
 fn run(
+    sample: &mut impl Read,
     goal: Goal,
     volumes: &[f64],
     centroids: &[[f64; 3]],
@@ -260,9 +261,10 @@ fn run(
         &mut density,
         &last,
     );
-    let mut t = replied(returned, true);
+    let mut t = replied(sample, returned, true);
     for _i in 0..TURNS {
         t = turn(
+            sample,
             t,
             volumes,
             passive,
@@ -274,7 +276,7 @@ fn run(
             &mut last,
         );
     }
-    is_end(t, &last)
+    is_end(sample, t, &last)
 }
 
 // The Rust knows no full stages.
@@ -285,11 +287,11 @@ fn sharpening(n: u64) -> Sharpening {
     Sharpening::Early
 }
 
-fn goal() -> Goal {
-    let fraction = number();
-    let radius = number();
-    let sharpen = sharpening(word());
-    let max_iterations = (word() % 1000) as usize;
+fn goal(sample: &mut impl Read) -> Goal {
+    let fraction = number(sample);
+    let radius = number(sample);
+    let sharpen = sharpening(word(sample));
+    let max_iterations = (word(sample) % 1000) as usize;
     Goal {
         fraction,
         radius,
@@ -298,25 +300,27 @@ fn goal() -> Goal {
     }
 }
 
-pub fn unmirrored() -> bool {
+pub fn unmirrored(sample: &mut impl Read) -> bool {
     let mut volumes = [0.0; 8];
     let mut centroids = [[0.0; 3]; 8];
     let mut passive = [false; 8];
-    floats(&mut volumes);
-    points(&mut centroids);
-    flags(&mut passive);
+    floats(sample, &mut volumes);
+    points(sample, &mut centroids);
+    flags(sample, &mut passive);
     let none = [[0.0; 6]; 0];
-    run(goal(), &volumes, &centroids, &passive, &none)
+    let goal = goal(sample);
+    run(sample, goal, &volumes, &centroids, &passive, &none)
 }
 
-pub fn mirrored() -> bool {
+pub fn mirrored(sample: &mut impl Read) -> bool {
     let mut volumes = [0.0; 8];
     let mut centroids = [[0.0; 3]; 8];
     let mut passive = [false; 8];
     let mut one = [[0.0; 6]; 1];
-    floats(&mut volumes);
-    points(&mut centroids);
-    flags(&mut passive);
-    planes(&mut one);
-    run(goal(), &volumes, &centroids, &passive, &one)
+    floats(sample, &mut volumes);
+    points(sample, &mut centroids);
+    flags(sample, &mut passive);
+    planes(sample, &mut one);
+    let goal = goal(sample);
+    run(sample, goal, &volumes, &centroids, &passive, &one)
 }

@@ -2,9 +2,16 @@
 // last two, zero behind the last row.
 use replay_sample::read::{are, are_counts, floats, planes, points};
 use replay_sample::words::number;
+use std::io::Read;
 
 // The planes are read last.
-fn built(centroids: &[[f64; 3]], volumes: &[f64], radius: f64, planes: &[[f64; 6]]) -> bool {
+fn built(
+    sample: &mut impl Read,
+    centroids: &[[f64; 3]],
+    volumes: &[f64],
+    radius: f64,
+    planes: &[[f64; 6]],
+) -> bool {
     let mut starts = [0u32; 9];
     let mut near = [0u32; 64];
     let mut coef = [0.0; 64];
@@ -33,29 +40,29 @@ fn built(centroids: &[[f64; 3]], volumes: &[f64], radius: f64, planes: &[[f64; 6
         &mut found,
         &mut bits,
     );
-    let all_starts = are_counts(&starts);
-    let all_near = are_counts(&near);
-    let all_coef = are(&coef);
+    let all_starts = are_counts(sample, &starts);
+    let all_near = are_counts(sample, &near);
+    let all_coef = are(sample, &coef);
     (refused == 0) & all_starts & all_near & all_coef
 }
 
-pub fn unmirrored() -> bool {
+pub fn unmirrored(sample: &mut impl Read) -> bool {
     let mut centroids = [[0.0; 3]; 8];
     let mut volumes = [0.0; 8];
-    points(&mut centroids);
-    floats(&mut volumes);
-    let radius = number();
+    points(sample, &mut centroids);
+    floats(sample, &mut volumes);
+    let radius = number(sample);
     let none = [[0.0; 6]; 0];
-    built(&centroids, &volumes, radius, &none)
+    built(sample, &centroids, &volumes, radius, &none)
 }
 
-pub fn mirrored() -> bool {
+pub fn mirrored(sample: &mut impl Read) -> bool {
     let mut centroids = [[0.0; 3]; 8];
     let mut volumes = [0.0; 8];
     let mut two = [[0.0; 6]; 2];
-    points(&mut centroids);
-    floats(&mut volumes);
-    let radius = number();
-    planes(&mut two);
-    built(&centroids, &volumes, radius, &two)
+    points(sample, &mut centroids);
+    floats(sample, &mut volumes);
+    let radius = number(sample);
+    planes(sample, &mut two);
+    built(sample, &centroids, &volumes, radius, &two)
 }

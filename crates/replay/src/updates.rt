@@ -3,11 +3,12 @@
 use oc_kept::Rule;
 use replay_sample::read::{are, counts, flags, floats};
 use replay_sample::words::{number, same, word};
+use std::io::Read;
 use topo::Ending;
 
-fn rule() -> Rule {
-    let sharpened = word() != 0;
-    let value = number();
+fn rule(sample: &mut impl Read) -> Rule {
+    let sharpened = word(sample) != 0;
+    let value = number(sample);
     if sharpened {
         return Rule::Sharpened(value);
     }
@@ -23,7 +24,7 @@ fn ended_so(ending: Ending, number: u64, first: f64, second: f64) -> bool {
     }
 }
 
-pub fn update() -> bool {
+pub fn update(sample: &mut impl Read) -> bool {
     let mut x = [0.0; 12];
     let mut dc = [0.0; 12];
     let mut dv = [0.0; 12];
@@ -35,18 +36,18 @@ pub fn update() -> bool {
     let mut design = [0.0; 12];
     let mut gain = [0.0; 12];
     let mut work = [0.0; 12];
-    floats(&mut x);
-    floats(&mut dc);
-    floats(&mut dv);
-    flags(&mut passive);
-    let m = number();
-    let target = number();
-    let tolerance = number();
-    let rule = rule();
-    counts(&mut starts);
-    counts(&mut near);
-    floats(&mut coef);
-    floats(&mut volumes);
+    floats(sample, &mut x);
+    floats(sample, &mut dc);
+    floats(sample, &mut dv);
+    flags(sample, &mut passive);
+    let m = number(sample);
+    let target = number(sample);
+    let tolerance = number(sample);
+    let rule = rule(sample);
+    counts(sample, &mut starts);
+    counts(sample, &mut near);
+    floats(sample, &mut coef);
+    floats(sample, &mut volumes);
     let r = update::update(
         &x,
         &dc,
@@ -64,11 +65,11 @@ pub fn update() -> bool {
         &mut gain,
         &mut work,
     );
-    let kind = word();
-    let first = number();
-    let second = number();
-    let passes = word();
+    let kind = word(sample);
+    let first = number(sample);
+    let second = number(sample);
+    let passes = word(sample);
     let ending = r.ending;
     let as_told = ended_so(ending, kind, first, second);
-    as_told & (r.passes as u64 == passes) & are(&design)
+    as_told & (r.passes as u64 == passes) & are(sample, &design)
 }

@@ -3,23 +3,24 @@
 use mesh_block::Made;
 use replay_sample::read::{are_counts, are_points, are_tets, are_tris, point};
 use replay_sample::words::word;
+use std::io::Read;
 
-fn cells() -> usize {
-    (word() % 3) as usize
+fn cells(sample: &mut impl Read) -> usize {
+    (word(sample) % 3) as usize
 }
 
-fn is_made(m: Made) -> bool {
-    let nodes = word();
-    let tets = word();
-    let tris = word();
+fn is_made(sample: &mut impl Read, m: Made) -> bool {
+    let nodes = word(sample);
+    let tets = word(sample);
+    let tris = word(sample);
     (m.refused == 0) & (m.nodes as u64 == nodes) & (m.tets as u64 == tets) & (m.tris as u64 == tris)
 }
 
-pub fn block() -> bool {
-    let x = cells();
-    let y = cells();
-    let z = cells();
-    let size = point();
+pub fn block(sample: &mut impl Read) -> bool {
+    let x = cells(sample);
+    let y = cells(sample);
+    let z = cells(sample);
+    let size = point(sample);
     let mut nodes = [[0.0; 3]; 125];
     let mut tets = [[0u32; 10]; 48];
     let mut surfaces = [0u32; 48];
@@ -34,10 +35,10 @@ pub fn block() -> bool {
         &mut tris,
         &mut edges,
     );
-    let counts = is_made(made);
-    let all_nodes = are_points(&nodes);
-    let all_tets = are_tets(&tets);
-    let all_surfaces = are_counts(&surfaces);
-    let all_tris = are_tris(&tris);
+    let counts = is_made(sample, made);
+    let all_nodes = are_points(sample, &nodes);
+    let all_tets = are_tets(sample, &tets);
+    let all_surfaces = are_counts(sample, &surfaces);
+    let all_tris = are_tris(sample, &tris);
     counts & all_nodes & all_tets & all_surfaces & all_tris
 }

@@ -3,9 +3,10 @@ use geom::Mirror;
 use region_asymmetry::Distance;
 use replay_sample::read::{point, points, tris};
 use replay_sample::words::{number, same};
+use std::io::Read;
 
-fn is_distance(d: Distance) -> bool {
-    let far = number();
+fn is_distance(sample: &mut impl Read, d: Distance) -> bool {
+    let far = number(sample);
     match d {
         Distance::Refused(_) => false,
         Distance::Apart(x) => same(x, far),
@@ -36,12 +37,15 @@ fn measured(nodes: &[[f64; 3]], triangles: &[[u32; 6]], mirror: Mirror) -> Dista
     )
 }
 
-pub fn asymmetry() -> bool {
+pub fn asymmetry(sample: &mut impl Read) -> bool {
     let mut nodes = [[0.0; 3]; 30];
     let mut triangles = [[0u32; 6]; 20];
-    points(&mut nodes);
-    tris(&mut triangles);
-    let at = point();
-    let normal = point();
-    is_distance(measured(&nodes, &triangles, Mirror { point: at, normal }))
+    points(sample, &mut nodes);
+    tris(sample, &mut triangles);
+    let at = point(sample);
+    let normal = point(sample);
+    is_distance(
+        sample,
+        measured(&nodes, &triangles, Mirror { point: at, normal }),
+    )
 }

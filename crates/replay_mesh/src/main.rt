@@ -7,55 +7,58 @@ mod boundaries;
 mod designs;
 mod marks;
 
-use libc::STDOUT_FILENO;
 use replay_sample::tell::Totals;
 use replay_sample::words::word;
+use std::io;
+use std::io::Read;
 
 // Works out one case of a function, and answers whether it is as recorded.
-fn case(function: u64) -> bool {
+fn case(sample: &mut impl Read, function: u64) -> bool {
     match function {
-        23 => marks::passive(),
-        24 => boundaries::asymmetry(),
-        25 => designs::design(),
-        26 => blocks::block(),
+        23 => marks::passive(sample),
+        24 => boundaries::asymmetry(sample),
+        25 => designs::design(sample),
+        26 => blocks::block(sample),
         _ => false,
     }
 }
 
-fn name(function: u64) {
+fn name(function: u64) -> &'static str {
     match function {
-        23 => io::write_all(STDOUT_FILENO, b"passive"),
-        24 => io::write_all(STDOUT_FILENO, b"asymmetry"),
-        25 => io::write_all(STDOUT_FILENO, b"design"),
-        26 => io::write_all(STDOUT_FILENO, b"block"),
-        _ => io::write_all(STDOUT_FILENO, b"unknown"),
-    };
+        23 => "passive",
+        24 => "asymmetry",
+        25 => "design",
+        26 => "block",
+        _ => "unknown",
+    }
 }
 
 // How many of a section's cases differ.
-fn section(function: u64, count: u64) -> u64 {
+fn section(sample: &mut impl Read, function: u64, count: u64) -> u64 {
     let mut different = 0u64;
     for _i in 0..count {
-        if !case(function) {
-            different = std::num::wrapping_add_u64(different, 1);
+        if !case(sample, function) {
+            different = different.wrapping_add(1);
         }
     }
     different
 }
 
 // Replays the section that comes, writes its line and adds it to the totals.
-fn replayed(t: Totals) -> Totals {
-    let function = word();
-    let count = word();
-    let different = section(function, count);
-    name(function);
-    t.with(count, different)
+fn replayed(sample: &mut impl Read, out: &impl Print, t: Totals) -> io::Result<Totals> {
+    let function = word(sample);
+    let count = word(sample);
+    let different = section(sample, function, count);
+    out.print(name(function))?;
+    t.with(out, count, different)
 }
 
 // There are four sections.
-fn main() {
-    let t = replayed(Totals::none());
-    let t = replayed(t);
-    let t = replayed(t);
-    replay_sample::tell::total(replayed(t));
+fn main(rt: HostRuntime) -> io::Result<()> {
+    let mut sample = rt.stdin();
+    let t = replayed(&mut sample, &rt, Totals::none())?;
+    let t = replayed(&mut sample, &rt, t)?;
+    let t = replayed(&mut sample, &rt, t)?;
+    let t = replayed(&mut sample, &rt, t)?;
+    replay_sample::tell::total(&rt, t)
 }

@@ -1,9 +1,11 @@
 // One case of `passive`, of 45 nodes, 12 tetrahedra and 20 triangles: the nodes, the tetrahedra, the triangles, their surfaces, two held and two loaded nodes, two
 // kept sets (starts, four surfaces, depths); then the marks.
 use replay_sample::read::{are_flags, counts, floats, points, tets, tris};
+use std::io::Read;
 
 // The supports, loads and kept sets are read last.
 fn marked(
+    sample: &mut impl Read,
     nodes: &[[f64; 3]],
     elements: &[[u32; 10]],
     triangles: &[[u32; 6]],
@@ -21,11 +23,11 @@ fn marked(
     let mut order = [0u32; 12];
     let mut place = [0u32; 12];
     let mut first = [0u32; 13];
-    counts(&mut held);
-    counts(&mut loaded);
-    counts(&mut starts);
-    counts(&mut kept);
-    floats(&mut depths);
+    counts(sample, &mut held);
+    counts(sample, &mut loaded);
+    counts(sample, &mut starts);
+    counts(sample, &mut kept);
+    floats(sample, &mut depths);
     let refused = region_passive::passive(
         nodes,
         elements,
@@ -47,17 +49,17 @@ fn marked(
     refused == 0
 }
 
-pub fn passive() -> bool {
+pub fn passive(sample: &mut impl Read) -> bool {
     let mut nodes = [[0.0; 3]; 45];
     let mut elements = [[0u32; 10]; 12];
     let mut triangles = [[0u32; 6]; 20];
     let mut surfaces = [0u32; 20];
     let mut marks = [false; 12];
-    points(&mut nodes);
-    tets(&mut elements);
-    tris(&mut triangles);
-    counts(&mut surfaces);
-    let all = marked(&nodes, &elements, &triangles, &surfaces, &mut marks);
-    let as_told = are_flags(&marks);
+    points(sample, &mut nodes);
+    tets(sample, &mut elements);
+    tris(sample, &mut triangles);
+    counts(sample, &mut surfaces);
+    let all = marked(sample, &nodes, &elements, &triangles, &surfaces, &mut marks);
+    let as_told = are_flags(sample, &marks);
     all & as_told
 }

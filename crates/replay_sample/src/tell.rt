@@ -1,5 +1,5 @@
 // What is told of a section, and of all: how many cases, and how many differ.
-use libc::STDOUT_FILENO;
+use std::io;
 
 #[derive(Clone, Copy)]
 pub struct Totals {
@@ -16,25 +16,21 @@ impl Totals {
     }
 
     // Writes the rest of a section's line, and adds it.
-    pub fn with(self, cases: u64, different: u64) -> Totals {
-        told(cases, different);
-        Totals {
-            cases: std::num::wrapping_add_u64(self.cases, cases),
-            different: std::num::wrapping_add_u64(self.different, different),
-        }
+    pub fn with(self, out: &impl Print, cases: u64, different: u64) -> io::Result<Totals> {
+        told(out, cases, different)?;
+        Ok(Totals {
+            cases: self.cases.wrapping_add(cases),
+            different: self.different.wrapping_add(different),
+        })
     }
 }
 
-fn told(cases: u64, different: u64) {
-    io::write_all(STDOUT_FILENO, b" ");
-    io::print_decimal(STDOUT_FILENO, cases);
-    io::write_all(STDOUT_FILENO, b" differences ");
-    io::print_decimal(STDOUT_FILENO, different);
-    io::write_all(STDOUT_FILENO, b"\n");
+fn told(out: &impl Print, cases: u64, different: u64) -> io::Result<()> {
+    println!(out; " {cases} differences {different}")
 }
 
 // The last line.
-pub fn total(t: Totals) {
-    io::write_all(STDOUT_FILENO, b"cases");
-    told(t.cases, t.different);
+pub fn total(out: &impl Print, t: Totals) -> io::Result<()> {
+    out.print("cases")?;
+    told(out, t.cases, t.different)
 }

@@ -2,15 +2,16 @@
 ghost use Rattle.std.specs.Prelude.{◌≡◌};
 ghost use Rattle.replay_sample.specs.Same.{alike};
 
-use libc::STDIN_FILENO;
+use std::io::Read;
 
 fn wide(x: u8) -> u64 {
     x as u64
 }
 
-pub fn word() -> u64 {
+// A read that fails counts as the end.
+pub fn word(sample: &mut impl Read) -> u64 {
     let mut b = [0u8; 8];
-    io::read_full(STDIN_FILENO, &mut b);
+    let _ = sample.read_exact(&mut b);
     wide(b[0])
         | (wide(b[1]) << 8)
         | (wide(b[2]) << 16)
@@ -21,8 +22,8 @@ pub fn word() -> u64 {
         | (wide(b[7]) << 56)
 }
 
-pub fn number() -> f64 {
-    ieee_bits::from_bits(word())
+pub fn number(sample: &mut impl Read) -> f64 {
+    ieee_bits::from_bits(word(sample))
 }
 
 // 01: "Bits are compared with both zeros as one and all not-a-numbers as one."

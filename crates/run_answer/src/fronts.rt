@@ -62,7 +62,7 @@ pub fn solve(
 ) -> Iteration
     requires enough { Enough state energies.now
         (record { volumes = volumes.now; passive = passive.now; starts = starts.now; near = near.now; coef = coef.now; design = design.old; density = density.now; last = last.old })
-        (record { free = free.now; slope = slope.old; spare = spare.old; dc = dc.old; dv = dv.old }) }
+        (record { free = free.old; slope = slope.old; spare = spare.old; dc = dc.old; dv = dv.old }) }
     requires elements_bound { (state.setting.elements < 65536) × (state.progress.rounds < state.setting.max_iterations) }
     ensures { Solved state energies.now
         (record { volumes = volumes.now; passive = passive.now; starts = starts.now; near = near.now; coef = coef.now; design = design.old; density = density.now; last = last.old })

@@ -96,7 +96,7 @@ fn solves(
 ) -> Step
     requires enough { Enough state energies.now
         (record { volumes = volumes.now; passive = passive.now; starts = starts.now; near = near.now; coef = coef.now; design = design.old; density = density.old; last = last.old })
-        (record { free = free.now; slope = slope.old; spare = spare.old; dc = dc.old; dv = dv.old }) }
+        (record { free = free.old; slope = slope.old; spare = spare.old; dc = dc.old; dv = dv.old }) }
     requires fit { Fit state }
     ensures { Followed state (record { heard = heard; energies = energies.now })
         (record { volumes = volumes.now; passive = passive.now; starts = starts.now; near = near.now; coef = coef.now; design = design.old; density = density.old; last = last.old })

@@ -6,7 +6,7 @@ use native.Mathlib.Nat.{le_of_eq, lt_of_le_of_lt as nat_lt, mul-one, one-mul, su
 use native.Mathlib.Omega.{arith}
 use borrow.Author.Tests.{ltb-true, ltb-false, eqb-true, not-false}
 use lib.IntN.{ℤ, pos}
-use lib.Dec.{T, ltb, eqb}
+use lib.Dec.{T, eqb}
 use lib.Pow.{pow-lt, pow-add}
 use lib.ListN.{length, get_or}
 use lib.Ieee.{Float, nan, inf, fin, Format, binary64, prec, emax, low, up, down, round, sum, add, sub, mul, div, lt, le, is_nan, fits, of_bits}
@@ -14,7 +14,7 @@ use lib.Ieee.Fits.{add-fits, sub-fits, mul-fits, div-fits}
 use lib.Ieee.Exact.{round_exact}
 use lib.Ieee.Order.{le_of_values}
 use lib.Ieee.Positive.{positive}
-use Rattle.lists.specs.Lists.{fold_to, sum_to, any_to, choose, zero64}
+use Rattle.lists.specs.Lists.{fold_to, sum_to, choose, zero64}
 use Rattle.lists.proofs.Laws.{any-not, neither, both}
 use Rattle.ieee.specs.Basic.{one64}
 use Rattle.ieee.proofs.Basic.{holds}
@@ -25,7 +25,7 @@ use Rattle.oc_goal.specs.Goal.{xMin, no_room, target_of, start_density}
 use Rattle.oc_start.specs.Start.{solid_volume}
 use Rattle.ieee_lanes.proofs.Order.{Plus, Finite, finite-plus, positive-finite, lt_of_lt_of_le, lt_of_le_of_lt, add-plus, add-grows, mul-plus, div-plus, positive_of-tests, round-plus}
 use Rattle.run_plain.specs.Formulas.{sum_of}
-use Rattle.run_plain.specs.Opening.{Opening, elements, solid_of, total_of, target_at, fraction_bad, first_refusal}
+use Rattle.run_plain.specs.Opening.{Opening, elements, solid_of, total_of, target_at, first_refusal}
 use Rattle.run_plain.proofs.Checks.{checked}
 use Rattle.update_rates.proofs.Floats.{finite-below, cross, add-over, sub_is, sub-under, sub-grows, sub-positive, mul-under, div-under}
 use Rattle.update_rates.specs.Keeps.{Range}

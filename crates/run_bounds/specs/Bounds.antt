@@ -1,8 +1,5 @@
 -- Demand 3: "After each update held elements are 1 and free ones lie from 0.001 to 1, within the round's move as 01 rounds it." Definitions only.
-use Rattle.std.specs.Prelude.{◌≡◌, Bool, true, false, List, [], ◌∷◌, ◌++◌, ℕ, ◌<◌, T, length, get_or, Float}
-use Rattle.std.specs.Float.{nan, binary64}
-use Rattle.std.specs.Float.Ieee.{add, sub, le}
-use Rattle.ieee.specs.Basic.{one64}
+use Rattle.std.specs.Prelude.{◌≡◌, List, [], ◌∷◌, ◌++◌, Float}
 use Rattle.topo.specs.declared.Iteration.{Iteration}
 use Rattle.update_rates.specs.Bounds.{UpdatedBy}
 use Rattle.run_plain.specs.Formulas.{Steep, sharpness, move_at}

@@ -6,7 +6,8 @@ ghost use Rattle.shape_report.specs.Report.{text_of};
 ghost use Rattle.shape_report.specs.Steps.{Wrote};
 ghost use Rattle.shape.specs.Shape.{outcome_from};
 
-use libc::{STDIN_FILENO, STDOUT_FILENO};
+use std::io;
+use std::io::Read;
 use strip::Job;
 use strip_stream::Reader;
 use topo::{Goal, Iteration};
@@ -41,23 +42,21 @@ fn keep(kept: &mut [u8], at: usize, part: &[u8]) -> usize
     at + n
 }
 
-// Reads all of standard input in parts: each is fed to the reader, and the first bytes are kept. A strip has less than 2^35 bytes, so one that 2^32
-// parts do not end is malformed by then.
-fn read_all(kept: &mut [u8]) -> Input
+// Reads to the end in parts: each is fed to the reader, and the first bytes are kept. A read that fails counts as the end. A strip has less than 2^35
+// bytes and a part one at least, so a strip that 2^64 - 1 parts do not end is malformed by then.
+fn read_all(from: &mut impl Read, kept: &mut [u8]) -> Input
     ensures { result.at ≤ length kept.old }
 {
     let mut reader = strip_stream::begin();
     let mut at = 0usize;
-    let mut part = io::large_buffer();
-    let mut left = 0x1_0000_0000u64;
-    while left > 0 {
-        let got = io::read_full(STDIN_FILENO, &mut part);
+    let mut part = [0u8; 65536];
+    for _ in 0..u64::MAX {
+        let got = from.read(&mut part).unwrap_or(0);
+        if got == 0 {
+            break;
+        }
         reader = strip_stream::feed(reader, &part[..got]);
         at = keep(kept, at, &part[..got]);
-        left -= 1;
-        if got == 0 {
-            left = 0;
-        }
     }
     Input { reader, at }
 }
@@ -166,19 +165,18 @@ fn run(
     )
 }
 
-fn main() {
+fn main(rt: HostRuntime) -> io::Result<()> {
     // the bytes of a strip of 256 elements and three planes: what is past them is fed to the reader and not kept
     let mut kept = [0u8; 16644];
     // what a report of 64 rounds and 256 elements takes
     let mut out = [0u8; 14000];
-    let input = read_all(&mut kept);
+    let input = read_all(&mut rt.stdin(), &mut kept);
     let at = input.at;
     let answer = strip_stream::finish(input.reader);
     let number = strip_job::refusal(answer);
     if number > 0 {
         let n = shape_report::refused(&mut out, number);
-        io::write_all(STDOUT_FILENO, &out[..n]);
-        return;
+        return rt.write_all(&out[..n]);
     }
     let none = Job {
         elements: 0,
@@ -207,8 +205,7 @@ fn main() {
         &mut mirrors,
     ) {
         let n = shape_report::refused(&mut out, 14);
-        io::write_all(STDOUT_FILENO, &out[..n]);
-        return;
+        return rt.write_all(&out[..n]);
     }
     let end = run(
         strip_job::goal(job),
@@ -219,5 +216,5 @@ fn main() {
         &mirrors[..k],
         &mut out,
     );
-    io::write_all(STDOUT_FILENO, &out[..end]);
+    rt.write_all(&out[..end])
 }

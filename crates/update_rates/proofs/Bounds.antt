@@ -7,7 +7,7 @@ use Prim.Native.Nat.{ℕ, ◌<◌}
 use lib.IntN.{ℤ, pos}
 use lib.Dec.{T}
 use lib.ListN.{length, get_or}
-use lib.Ieee.{Float, nan, fin, binary64, up, down, add, sub, mul, div, le, lt, fits, of_bits}
+use lib.Ieee.{Float, nan, fin, binary64, add, sub, mul, div, le, lt, fits, of_bits}
 use lib.Ieee.Fits.{add-fits, sub-fits, mul-fits}
 use lib.Ieee.Positive.{between}
 use Rattle.lists.specs.Lists.{choose, zero64}
@@ -20,7 +20,7 @@ use Rattle.ieee_lanes.proofs.Order.{Finite, number-left, finite-plus, positive-f
 use Rattle.oc_goal.specs.Goal.{xMin}
 use Rattle.update_value.specs.Value.{grown, limited, next_of}
 use Rattle.update_design.specs.Design.{design_at}
-use Rattle.update_rates.specs.Rates.{Given, Search, trial, first, raises, raised, halves, halved, while_to, raised_all, updated}
+use Rattle.update_rates.specs.Rates.{Given, Search, trial, first, raises, raised, halves, halved, raised_all, updated}
 use Rattle.update_rates.specs.Bounds.{Bounded}
 use Rattle.update_rates.specs.Keeps.{Range, AllRange, Move, Keeps, EveryUpdate}
 use Rattle.update_rates.proofs.Floats.{finite-below, add-over, add-over-second, sub-below}

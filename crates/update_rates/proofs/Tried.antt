@@ -1,13 +1,13 @@
 -- The count of an update is the number of rates that it tries. Assumes nothing.
-use mathlib.Core.Path.{◌≡◌, refl, sym, ap, ◌∙◌}
+use mathlib.Core.Path.{◌≡◌, refl, sym, ◌∙◌}
 use mathlib.Core.Bool.{Bool, true, false}
-use mathlib.Core.List.{List, [], ◌∷◌, ◌++◌, map}
-use Prim.Native.Nat.{ℕ, zero, suc, ◌+◌, ◌-◌, ◌≤◌}
+use mathlib.Core.List.{[], ◌∷◌}
+use Prim.Native.Nat.{ℕ, zero, suc, ◌+◌, ◌-◌}
 use native.Mathlib.Omega.{arith}
 use lib.ListN.{length, length-append, length-map}
 use lib.Ieee.{Float, binary64, mul}
 use Rattle.oc_record.specs.Record.{two64}
-use Rattle.update_rates.specs.Rates.{Given, Search, trial, reckoned, first_rate, first, raises, raised, middle, halves, halved, while_to, raised_all, updated}
+use Rattle.update_rates.specs.Rates.{Given, Search, trial, reckoned, first, raises, raised, middle, halves, halved, while_to, raised_all, updated}
 use Rattle.update_rates.specs.Tried.{turns_to, tried, reckonings}
 
 abbrev Counts : ℕ → ℕ → Search → Type 0

@@ -1,6 +1,6 @@
 -- `filter_apply::row_tested` meets its contract. The invariant of both loops: what is added up is the sum over the places passed. A row that is not empty is
 -- within both lists. Assumes nothing.
-use Prim.Native.Nat.{◌+◌, ◌<◌}
+use Prim.Native.Nat.{◌+◌}
 use Rattle.filter_apply.proofs.row_tested.Goals as goal
 use Rattle.filter_apply.specs.Steps.{plus_product}
 use Rattle.filter_table.proofs.Laws.{row_end-from, row_end-room, four-turns}
@@ -9,7 +9,6 @@ use Rattle.lists.proofs.Laws.{fold_over-none, fold_over-more, fold_over_join}
 use Rattle.lists.specs.Lists.{zero64, fold_over, sum_over}
 use borrow.Author.Rules.{rules}
 use lib.Ieee.{Float}
-use lib.ListN.{length}
 use mathlib.Core.Path.{sym, ap, ◌∙◌}
 use native.Mathlib.Nat.{le_antisymm}
 use native.Mathlib.Omega.{arith}
@@ -38,19 +37,19 @@ pub loop-k-2-init : goal.loop-k-2-init
 loop-k-2-init c = (search rules, omega arith, search rules, sym (fold_over-none _ _ _ _ (omega arith)))
 
 pub offset_bounds-near-k : goal.offset_bounds-near-k
-offset_bounds-near-k c = omega (arith, (let h : (c.loop-k-2.k < length c.args.near.now) × (c.loop-k-2.k < length c.args.coef.now) = let a = c.args in let l = c.loop-k-2 in row_end-room a.near.now a.coef.now a.from a.to l.k (omega (arith, l.invariant.0, l.invariant.1)) (omega arith) in h))
+offset_bounds-near-k c = omega (arith, row_end-room c.args.near.now c.args.coef.now c.args.from c.args.to c.loop-k-2.k (omega arith) (omega arith))
 
 pub bounds-near-k : goal.bounds-near-k
-bounds-near-k c = ((let h : (c.loop-k-2.k < length c.args.near.now) × (c.loop-k-2.k < length c.args.coef.now) = let a = c.args in let l = c.loop-k-2 in row_end-room a.near.now a.coef.now a.from a.to l.k (omega (arith, l.invariant.0, l.invariant.1)) (omega arith) in h)).0
+bounds-near-k c = (row_end-room c.args.near.now c.args.coef.now c.args.from c.args.to c.loop-k-2.k (omega arith) (omega arith)).0
 
 pub overflow_cast-j : goal.overflow_cast-j
 overflow_cast-j c = omega (arith, c.type_inv.near c.loop-k-2.k)
 
 pub offset_bounds-coef-k : goal.offset_bounds-coef-k
-offset_bounds-coef-k c = omega (arith, (let h : (c.loop-k-2.k < length c.args.near.now) × (c.loop-k-2.k < length c.args.coef.now) = let a = c.args in let l = c.loop-k-2 in row_end-room a.near.now a.coef.now a.from a.to l.k (omega (arith, l.invariant.0, l.invariant.1)) (omega arith) in h))
+offset_bounds-coef-k c = omega (arith, row_end-room c.args.near.now c.args.coef.now c.args.from c.args.to c.loop-k-2.k (omega arith) (omega arith))
 
 pub bounds-coef-k : goal.bounds-coef-k
-bounds-coef-k c = ((let h : (c.loop-k-2.k < length c.args.near.now) × (c.loop-k-2.k < length c.args.coef.now) = let a = c.args in let l = c.loop-k-2 in row_end-room a.near.now a.coef.now a.from a.to l.k (omega (arith, l.invariant.0, l.invariant.1)) (omega arith) in h)).1
+bounds-coef-k c = (row_end-room c.args.near.now c.args.coef.now c.args.from c.args.to c.loop-k-2.k (omega arith) (omega arith)).1
 
 pub at-requires : goal.at-requires
 at-requires c = tt

@@ -4,21 +4,21 @@ use Rattle.filter_checks.proofs.refusal.Goals as goal
 use Rattle.filter_group.specs.Group.{planes_refusal}
 use Rattle.lists.proofs.Laws.{choose-false}
 use Rattle.lists.specs.Lists.{choose}
-use borrow.Author.Rules.{rules}
-use mathlib.Core.Bool.{Bool}
+use borrow.Author.Tests.{eq-eqb, ne_eqb, lt-ltb, le-ltb}
+use mathlib.Core.Bool.{Bool, not}
 use mathlib.Core.Path.{refl, sym, ap, ◌∙◌}
 
 pub returns-then-differ : goal.returns-then-differ
 unfolding early choose
-returns-then-differ c = rw c.if-differ.true-raw refl
+returns-then-differ c = rw (ap not (ne_eqb _ _ c.if-differ.true)) refl
 
 pub returns-then-none : goal.returns-then-none
 unfolding early choose
-returns-then-none c = rw (c.if-differ.false-raw, c.if-none.true-raw) refl
+returns-then-none c = rw ((ap not (eq-eqb _ _ c.if-differ.false)), (eq-eqb _ _ c.if-none.true)) refl
 
 pub returns-then-many : goal.returns-then-many
 unfolding early choose
-returns-then-many c = rw (c.if-differ.false-raw, c.if-none.false-raw, c.if-many.true-raw) refl
+returns-then-many c = rw ((ap not (eq-eqb _ _ c.if-differ.false)), (ne_eqb _ _ c.if-none.false), (lt-ltb _ _ c.if-many.true)) refl
 
 pub returns : goal.returns
 unfolding early
@@ -28,4 +28,4 @@ returns c = let a = c.args in
     let e9 = c.first-rest-2.ensures ∙ (λ i. choose (c.points_bad.ensures i) 9 (e10 i)) in
     let e8 = c.first-rest-3.ensures ∙ (λ i. choose (c.radius_bad.ensures i) 8 (e9 i)) in
     c.first.ensures ∙ (λ i. choose (c.volumes_bad.ensures i) 4 (e8 i))
-    ∙ sym (choose-false _ _ _ c.if-differ.false-raw ∙ choose-false _ _ _ c.if-none.false-raw ∙ choose-false _ _ _ c.if-many.false-raw)
+    ∙ sym (choose-false _ _ _ (ap not (eq-eqb _ _ c.if-differ.false)) ∙ choose-false _ _ _ (ne_eqb _ _ c.if-none.false) ∙ choose-false _ _ _ (le-ltb _ _ c.if-many.false))

@@ -1,7 +1,6 @@
 -- `filter_checks::too_short` meets its contract: the tests, as they stand. Assumes nothing.
 use Rattle.filter_checks.proofs.too_short.Goals as goal
 use Rattle.lent.specs.Lent.{short}
-use borrow.Author.Rules.{rules}
 use native.Mathlib.Numerals.{add-one}
 
 pub returns : goal.returns

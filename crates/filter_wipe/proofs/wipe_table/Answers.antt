@@ -1,6 +1,5 @@
 -- `filter_wipe::wipe_table` meets its contract: what each call promises. Assumes nothing.
 use Rattle.filter_wipe.proofs.wipe_table.Goals as goal
-use borrow.Author.Rules.{rules}
 
 pub shape_of-starts : goal.shape_of-starts
 shape_of-starts c = c.words.auto.l

@@ -1,6 +1,5 @@
 -- `filter_wipe::wipe_work` meets its contract: what each call promises. Assumes nothing.
 use Rattle.filter_wipe.proofs.wipe_work.Goals as goal
-use borrow.Author.Rules.{rules}
 
 pub shape_of-cell : goal.shape_of-cell
 shape_of-cell c = c.cubes.auto.l

@@ -1,12 +1,8 @@
 -- `lists::sum` meets its contract. The invariant: what is added up is the sum of the places passed. Assumes nothing.
-use Prim.Native.Nat.{◌-◌, ◌≤◌}
 use Rattle.lists.proofs.Laws.{sum_to-none, sum_to-more}
 use Rattle.lists.proofs.sum.Goals as goal
-use Rattle.lists.specs.Lists.{sum_to}
 use borrow.Author.Rules.{rules}
-use lib.Ieee.{nan}
-use lib.ListN.{length, get_or}
-use mathlib.Core.Path.{◌≡◌, sym}
+use mathlib.Core.Path.{sym}
 use native.Mathlib.Nat.{le_antisymm}
 
 pub loop-i-init : goal.loop-i-init

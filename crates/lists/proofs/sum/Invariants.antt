@@ -1,13 +1,10 @@
 -- `lists::sum` meets its contract. The invariant: what is added up is the sum of the places passed. Assumes nothing.
 use Prim.Native.Nat.{◌-◌, ◌≤◌}
-use Rattle.lists.proofs.Laws.{sum_to-none, sum_to-more}
 use Rattle.lists.proofs.sum.Given as goal
 use Rattle.lists.specs.Lists.{sum_to}
-use borrow.Author.Rules.{rules}
 use lib.Ieee.{nan}
 use lib.ListN.{length, get_or}
-use mathlib.Core.Path.{◌≡◌, sym}
-use native.Mathlib.Nat.{le_antisymm}
+use mathlib.Core.Path.{◌≡◌}
 
 abbrev pub invariant-loop-i : goal.invariant-loop-i
 invariant-loop-i l = (l.i ≤ length l.a) × (l.t ≡ sum_to (λ k. get_or l.a k nan) l.i)

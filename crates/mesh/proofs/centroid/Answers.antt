@@ -3,7 +3,6 @@ use Rattle.geom.specs.Vectors.{plus, scaled}
 use Rattle.lists.specs.Lists.{fold_to}
 use Rattle.mesh.proofs.centroid.Goals as goal
 use Rattle.mesh.specs.Mesh.{quarter64, centroid_of}
-use borrow.Author.Rules.{rules}
 use mathlib.Core.Path.{◌∙◌}
 
 pub returns : goal.returns

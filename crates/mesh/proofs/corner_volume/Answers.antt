@@ -2,7 +2,6 @@
 use Rattle.ieee.specs.Basic.{abs_of}
 use Rattle.mesh.proofs.corner_volume.Goals as goal
 use Rattle.mesh.specs.Mesh.{triple, six64, corner_volume_of}
-use borrow.Author.Rules.{rules}
 use lib.Ieee.{Float, binary64, div}
 use mathlib.Core.Path.{ap, ◌∙◌}
 

@@ -1,5 +1,4 @@
 -- `mesh::extent` meets its contract. The loop's invariant: the least and the greatest coordinates of the nodes passed. Assumes nothing.
-use Prim.Native.Nat.{◌≤◌, ◌-◌}
 use Rattle.geom.specs.Vectors.{less, least, greatest, len}
 use Rattle.lists.proofs.Laws.{fold_to-none, fold_to-more, choose-true, choose-false}
 use Rattle.mesh.proofs.extent.Goals as goal
@@ -14,51 +13,17 @@ pub returns-then-nodes-eq0 : goal.returns-then-nodes-eq0
 unfolding extent_of
 returns-then-nodes-eq0 c = sym (choose-true _ _ _ (eq-eqb _ _ c.if-nodes-eq0.true))
 
-pub bounds-nodes-0 : goal.bounds-nodes-0
-bounds-nodes-0 c = omega arith
-
-pub point-lo-requires : goal.point-lo-requires
-point-lo-requires c = tt
-
 pub loop-i-init : goal.loop-i-init
 unfolding lowest highest
 loop-i-init c = (omega arith, c.point-lo.ensures ∙ sym (fold_to-none _ _), c.point-lo.ensures ∙ sym (fold_to-none _ _))
 
-pub offset_bounds-nodes-i : goal.offset_bounds-nodes-i
-offset_bounds-nodes-i c = omega arith
-
-pub bounds-nodes-i : goal.bounds-nodes-i
-bounds-nodes-i c = omega arith
-
-pub point-p-requires : goal.point-p-requires
-point-p-requires c = tt
-
-pub min-lo-requires : goal.min-lo-requires
-min-lo-requires c = tt
-
-pub max-hi-requires : goal.max-hi-requires
-max-hi-requires c = tt
-
-pub overflow_add-i : goal.overflow_add-i
-overflow_add-i c = omega arith
-
-pub loop-i-smaller : goal.loop-i-smaller
-loop-i-smaller c = omega arith
-
 pub loop-i-preserved : goal.loop-i-preserved
 unfolding lowest highest
-loop-i-preserved c = let inv = c.loop-i.invariant in
-    (
-      omega arith,
-      c.min-lo.ensures ∙ (λ i. least (inv.1 i) (c.point-p.ensures i)) ∙ fold_to-more _ _ _,
-      c.max-hi.ensures ∙ (λ i. greatest (inv.2 i) (c.point-p.ensures i)) ∙ fold_to-more _ _ _,
-    )
-
-pub sub-requires : goal.sub-requires
-sub-requires c = tt
-
-pub len-requires : goal.len-requires
-len-requires c = tt
+loop-i-preserved c = let inv = c.loop-i.invariant in (
+  omega arith,
+  c.min-lo.ensures ∙ (λ i. least (inv.1 i) (c.point-p.ensures i)) ∙ fold_to-more _ _ _,
+  c.max-hi.ensures ∙ (λ i. greatest (inv.2 i) (c.point-p.ensures i)) ∙ fold_to-more _ _ _,
+)
 
 pub returns : goal.returns
 unfolding extent_of

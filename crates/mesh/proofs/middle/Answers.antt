@@ -1,6 +1,5 @@
 -- `mesh::middle` meets its contract: both products. Assumes nothing.
 use Rattle.mesh.proofs.middle.Goals as goal
-use borrow.Author.Rules.{rules}
 
 pub returns : goal.returns
 returns c = λ i. record { a = c.scale.ensures i; b = c.scale-2.ensures i }

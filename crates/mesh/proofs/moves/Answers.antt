@@ -1,7 +1,6 @@
 -- `mesh::moves` meets its contract: the sums, one after the other. Assumes nothing.
 use Rattle.geom.specs.Vectors.{plus}
 use Rattle.mesh.proofs.moves.Goals as goal
-use borrow.Author.Rules.{rules}
 use mathlib.Core.Path.{◌∙◌}
 
 pub returns : goal.returns

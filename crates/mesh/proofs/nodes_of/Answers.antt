@@ -1,6 +1,5 @@
 -- `mesh::nodes_of` meets its contract: node by node. Assumes nothing.
 use Rattle.mesh.proofs.nodes_of.Goals as goal
-use borrow.Author.Rules.{rules}
 
 pub returns : goal.returns
 returns c = λ i. record {

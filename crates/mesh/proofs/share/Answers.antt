@@ -1,7 +1,6 @@
 -- `mesh::share` meets its contract: that of the triple product. Assumes nothing.
 use Rattle.mesh.proofs.share.Goals as goal
 use Rattle.mesh.specs.Mesh.{twenty_four64}
-use borrow.Author.Rules.{rules}
 use lib.Ieee.{Float, binary64, div}
 use mathlib.Core.Path.{ap}
 

@@ -1,7 +1,6 @@
 -- `mesh::triple` meets its contract: the calls' promises, put one into the other. Assumes nothing.
 use Rattle.geom.specs.Vectors.{dot, cross}
 use Rattle.mesh.proofs.triple.Goals as goal
-use borrow.Author.Rules.{rules}
 use mathlib.Core.Path.{◌∙◌}
 
 pub returns : goal.returns

@@ -2,7 +2,6 @@
 use Rattle.ieee.specs.Basic.{abs_of}
 use Rattle.mesh.proofs.volume.Goals as goal
 use Rattle.mesh.specs.Mesh.{rule_of, volume_of}
-use borrow.Author.Rules.{rules}
 use mathlib.Core.Path.{ap, ◌∙◌}
 
 pub returns : goal.returns

@@ -1,33 +1,15 @@
 -- `region_checks::any_missing` meets its contract. The loop's invariant: what is found among the triangles passed. Assumes nothing.
-use Prim.Native.Nat.{◌≤◌, ◌-◌}
 use Rattle.lists.proofs.Laws.{any_none, any_step}
 use Rattle.lists.specs.Lists.{any_to}
 use Rattle.region_checks.proofs.any_missing.Goals as goal
-use Rattle.region_checks.specs.Boundary.{missing_in, any_missing}
-use lib.ListN.{length, get_or}
+use Rattle.region_checks.specs.Boundary.{any_missing}
 use mathlib.Core.Bool.{◌||◌}
-use mathlib.Core.List.{[]}
-use mathlib.Core.Path.{◌≡◌, ap, sym, ◌∙◌}
+use mathlib.Core.Path.{ap, sym, ◌∙◌}
 use native.Mathlib.Nat.{le_antisymm}
 use native.Mathlib.Omega.{arith}
 
 pub loop-i-init : goal.loop-i-init
 loop-i-init c = (omega arith, sym (any_none _))
-
-pub offset_bounds-tris-i : goal.offset_bounds-tris-i
-offset_bounds-tris-i c = omega arith
-
-pub bounds-tris-i : goal.bounds-tris-i
-bounds-tris-i c = omega arith
-
-pub missing-found-requires : goal.missing-found-requires
-missing-found-requires c = tt
-
-pub overflow_add-i : goal.overflow_add-i
-overflow_add-i c = omega arith
-
-pub loop-i-smaller : goal.loop-i-smaller
-loop-i-smaller c = omega arith
 
 pub loop-i-preserved : goal.loop-i-preserved
 loop-i-preserved c = (omega arith, (λ i. c.loop-i.invariant.1 i || c.missing-found.ensures i) ∙ any_step _ _)

@@ -2,7 +2,6 @@
 use Rattle.lists.specs.Lists.{any_to}
 use Rattle.region_checks.proofs.missing.Goals as goal
 use Rattle.region_checks.specs.Boundary.{missing_in}
-use borrow.Author.Rules.{rules}
 use mathlib.Core.Path.{refl}
 
 pub returns : goal.returns

@@ -8,15 +8,9 @@ pub returns-then-elements-tris : goal.returns-then-elements-tris
 unfolding refusal_of
 returns-then-elements-tris c = sym (choose-true _ _ _ c.if-elements-tris.true)
 
-pub any_missing-requires : goal.any_missing-requires
-any_missing-requires c = tt
-
 pub returns-then-any_missing : goal.returns-then-any_missing
 unfolding refusal_of
 returns-then-any_missing c = sym (choose-false _ _ _ c.if-elements-tris.false ∙ choose-true _ _ _ (sym c.any_missing.ensures ∙ c.if-any_missing.true))
-
-pub points_bad-requires : goal.points_bad-requires
-points_bad-requires c = tt
 
 pub returns-then-points_bad : goal.returns-then-points_bad
 unfolding refusal_of

@@ -3,7 +3,6 @@ use Rattle.geom.specs.Vectors.{less, greatest, len2}
 use Rattle.geom.specs.declared.Vec3.{Vec3}
 use Rattle.region_nearest.proofs.gap.Goals as goal
 use Rattle.region_nearest.specs.Nearest.{gap_of}
-use borrow.Author.Rules.{rules}
 use mathlib.Core.Path.{ap, ◌∙◌}
 
 pub returns : goal.returns

@@ -3,7 +3,6 @@ use Rattle.lists.specs.Lists.{choose}
 use Rattle.run_course.proofs.After.{course-is}
 use Rattle.run_course.proofs.course.Goals as goal
 use Rattle.run_plain.specs.Plain.{first_stop}
-use borrow.Author.Rules.{rules}
 use borrow.Author.Tests.{le-leb, lt-leb}
 
 pub returns-then-sharp-small : goal.returns-then-sharp-small

@@ -1,7 +1,6 @@
 -- `run_course::level` meets its contract: the test, as it stands. Assumes nothing.
 use Rattle.run_course.proofs.level.Goals as goal
 use Rattle.run_plain.specs.Formulas.{level}
-use borrow.Author.Rules.{rules}
 use lib.Ieee.{Float, binary64, mul, lt, of_bits}
 use mathlib.Core.Path.{ap}
 

@@ -1,16 +1,12 @@
 -- `run_verdict::not_finite` meets its contract: the places passed are looked at. Assumes nothing.
 use Prim.Native.Nat.{◌-◌, ◌≤◌}
 use Rattle.ieee.specs.Basic.{is_finite}
-use Rattle.lists.proofs.Laws.{any_none, any_step}
 use Rattle.lists.specs.Lists.{any_to}
-use Rattle.run_plain.specs.Formulas.{not_finite}
 use Rattle.run_verdict.proofs.not_finite.Given as goal
-use borrow.Author.Rules.{rules}
 use lib.Ieee.{nan}
 use lib.ListN.{length, get_or}
-use mathlib.Core.Bool.{not, ◌||◌}
-use mathlib.Core.Path.{◌≡◌, sym, ◌∙◌}
-use native.Mathlib.Nat.{le_antisymm}
+use mathlib.Core.Bool.{not}
+use mathlib.Core.Path.{◌≡◌}
 
 abbrev pub invariant-loop-i : goal.invariant-loop-i
 invariant-loop-i l = (l.i ≤ length l.energies) × (l.t ≡ any_to (λ k. not (is_finite (get_or l.energies k nan))) l.i)

@@ -2,7 +2,6 @@
 use Rattle.lent.specs.Lent.{short}
 use Rattle.run_plain.specs.Lent.{run_short, answer_short}
 use Rattle.run_verdict.proofs.too_short.Goals as goal
-use borrow.Author.Rules.{rules}
 use native.Mathlib.Numerals.{add-one}
 
 pub returns : goal.returns

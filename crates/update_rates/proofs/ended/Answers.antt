@@ -2,7 +2,6 @@
 use Rattle.ieee.proofs.Basic.{is-nan, is_number}
 use Rattle.update_rates.proofs.Ends.{ended-met, ended_lost, ended-spent, ended_cramped}
 use Rattle.update_rates.proofs.ended.Goals as goal
-use borrow.Author.Rules.{rules}
 
 pub returns-then-abs-tolerance : goal.returns-then-abs-tolerance
 returns-then-abs-tolerance c = ended-met _ _ _ _ _ _ _ c.abs.ensures c.if-abs-tolerance.true

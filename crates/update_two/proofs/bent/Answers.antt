@@ -1,7 +1,6 @@
 -- `update_two::bent` meets its contract. Assumes nothing.
 use Rattle.update_two.proofs.bent.Goals as goal
 use Rattle.update_two.specs.Part.{bent}
-use borrow.Author.Rules.{rules}
 
 pub returns : goal.returns
 unfolding bent

@@ -2,7 +2,6 @@
 use Prim.Native.Nat.{◌+◌}
 use Rattle.update_two.proofs.Laws.{part-more}
 use Rattle.update_two.proofs.four.Goals as goal
-use borrow.Author.Rules.{rules}
 use native.Mathlib.Omega.{arith}
 
 pub place-s-requires : goal.place-s-requires

@@ -1,6 +1,5 @@
 -- `update_two::grown` meets its contract. Assumes nothing.
 use Rattle.update_two.proofs.grown.Goals as goal
-use borrow.Author.Rules.{rules}
 
 pub returns : goal.returns
 returns c = rw c.either.ensures

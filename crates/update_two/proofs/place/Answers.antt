@@ -3,7 +3,6 @@ use Prim.Native.Nat.{◌+◌}
 use Rattle.filter_table.proofs.Laws.{wf-row}
 use Rattle.update_two.proofs.place.Goals as goal
 use Rattle.update_two.specs.Part.{bent}
-use borrow.Author.Rules.{rules}
 use mathlib.Core.Path.{◌∙◌, ap}
 use native.Mathlib.Omega.{arith}
 

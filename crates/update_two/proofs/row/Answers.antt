@@ -1,14 +1,14 @@
 -- `update_two::row` meets its contract, as `filter_table::row` does. The invariant: what is added up is the sum over the places passed. Assumes nothing.
-use Prim.Native.Nat.{◌-◌, ◌≤◌, ◌<◌}
+use Prim.Native.Nat.{◌<◌}
 use Rattle.filter_table.proofs.Laws.{row_end-within}
 use Rattle.filter_table.specs.Table.{product, row_sum}
 use Rattle.lists.proofs.Laws.{sum_over-none, sum_over-more, get_d_any}
-use Rattle.lists.specs.Lists.{zero64, sum_over}
+use Rattle.lists.specs.Lists.{zero64}
 use Rattle.update_two.proofs.row.Goals as goal
 use borrow.Author.Rules.{rules}
 use lib.Ieee.{nan}
 use lib.ListN.{length, get_or}
-use mathlib.Core.Path.{◌≡◌, sym}
+use mathlib.Core.Path.{sym}
 use native.Mathlib.Nat.{le_antisymm}
 use native.Mathlib.Omega.{arith}
 
@@ -19,16 +19,16 @@ pub overflow_cast-j : goal.overflow_cast-j
 overflow_cast-j c = omega (arith, c.type_inv.near c.loop-k.k)
 
 pub offset_bounds-x-j : goal.offset_bounds-x-j
-offset_bounds-x-j c = omega (arith, (c.requires.0.inside c.loop-k.k (omega arith)))
+offset_bounds-x-j c = omega (arith, (let h : get_or c.args.near.now c.loop-k.k 0 < length c.args.x.now = c.requires.0.inside c.loop-k.k (omega arith) in h))
 
 pub bounds-x-j : goal.bounds-x-j
-bounds-x-j c = (c.requires.0.inside c.loop-k.k (omega arith))
+bounds-x-j c = (let h : get_or c.args.near.now c.loop-k.k 0 < length c.args.x.now = c.requires.0.inside c.loop-k.k (omega arith) in h)
 
 pub offset_bounds-y-j : goal.offset_bounds-y-j
-offset_bounds-y-j c = omega (arith, (c.requires.0.inside c.loop-k.k (omega arith)))
+offset_bounds-y-j c = omega (arith, (let h : get_or c.args.near.now c.loop-k.k 0 < length c.args.x.now = c.requires.0.inside c.loop-k.k (omega arith) in h))
 
 pub bounds-y-j : goal.bounds-y-j
-bounds-y-j c = omega (arith, (c.requires.0.inside c.loop-k.k (omega arith)), c.requires.1)
+bounds-y-j c = omega (arith, (let h : get_or c.args.near.now c.loop-k.k 0 < length c.args.x.now = c.requires.0.inside c.loop-k.k (omega arith) in h), c.requires.1)
 
 pub loop-k-preserved : goal.loop-k-preserved
 unfolding product

@@ -1,16 +1,9 @@
 -- `update_two::row` meets its contract, as `filter_table::row` does. The invariant: what is added up is the sum over the places passed. Assumes nothing.
-use Prim.Native.Nat.{◌-◌, ◌≤◌, ◌<◌}
-use Rattle.filter_table.proofs.Laws.{row_end-within}
-use Rattle.filter_table.specs.Table.{product, row_sum}
-use Rattle.lists.proofs.Laws.{sum_over-none, sum_over-more, get_d_any}
-use Rattle.lists.specs.Lists.{zero64, sum_over}
+use Prim.Native.Nat.{◌-◌, ◌≤◌}
+use Rattle.filter_table.specs.Table.{product}
+use Rattle.lists.specs.Lists.{sum_over}
 use Rattle.update_two.proofs.row.Given as goal
-use borrow.Author.Rules.{rules}
-use lib.Ieee.{nan}
-use lib.ListN.{length, get_or}
-use mathlib.Core.Path.{◌≡◌, sym}
-use native.Mathlib.Nat.{le_antisymm}
-use native.Mathlib.Omega.{arith}
+use mathlib.Core.Path.{◌≡◌}
 
 abbrev pub invariant-loop-k : goal.invariant-loop-k
 invariant-loop-k l = (l.from ≤ l.k) × (l.k ≤ l.to) × (l.a ≡ sum_over (product l.near l.coef l.x) l.from l.k) × (l.b ≡ sum_over (product l.near l.coef l.y) l.from l.k)

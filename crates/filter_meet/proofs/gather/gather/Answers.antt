@@ -1,8 +1,7 @@
 -- `filter_meet::gather::gather` meets its contract. The invariant: the weights and marks under the members passed. Assumes nothing.
-use Prim.Native.Nat.{◌-◌, ◌≤◌}
 use Rattle.filter.specs.Filter.{counts, seen}
 use Rattle.filter_group.specs.Group.{mirrors, members, image_in}
-use Rattle.filter_look.specs.Steps.{Lists, Gathered, gained}
+use Rattle.filter_look.specs.Steps.{gained}
 use Rattle.filter_meet.proofs.Gathering.{gather-more}
 use Rattle.filter_meet.proofs.Taking.{took-lists}
 use Rattle.filter_meet.proofs.gather.gather.Goals as goal
@@ -33,7 +32,7 @@ pub image_of-q-requires : goal.image_of-q-requires
 image_of-q-requires c = tt
 
 pub around-count-requires : goal.around-count-requires
-around-count-requires c = (c.requires.ready.0, c.loop-k.invariant.1)
+around-count-requires c = record { ready = c.requires.ready.0; lists = c.loop-k.invariant.1 }
 
 pub overflow_add-k : goal.overflow_add-k
 overflow_add-k c = omega (arith, c.loop-k-test.true)

@@ -1,18 +1,9 @@
 -- `filter_meet::gather::gather` meets its contract. The invariant: the weights and marks under the members passed. Assumes nothing.
 use Prim.Native.Nat.{◌-◌, ◌≤◌}
-use Rattle.filter.specs.Filter.{counts, seen}
-use Rattle.filter_group.specs.Group.{mirrors, members, image_in}
-use Rattle.filter_look.specs.Steps.{Lists, Gathered, gained}
-use Rattle.filter_meet.proofs.Gathering.{gather-more}
-use Rattle.filter_meet.proofs.Taking.{took-lists}
+use Rattle.filter_look.specs.Steps.{Lists, Gathered}
 use Rattle.filter_meet.proofs.gather.gather.Given as goal
-use Rattle.geom.specs.declared.Mirror.{Mirror}
-use Rattle.geom.specs.declared.Vec3.{Vec3}
 use lib.ListN.{length}
-use mathlib.Core.List.{List}
-use mathlib.Core.Path.{◌≡◌, refl, sym, ap, ◌∙◌}
-use native.Mathlib.Nat.{le_antisymm}
-use native.Mathlib.Omega.{arith}
+use mathlib.Core.Path.{◌≡◌}
 
 abbrev pub invariant-loop-k : goal.invariant-loop-k
 invariant-loop-k l = (l.k ≤ l.end) × Lists (length l.cell) l.mark l.count l.stamp l.weight l.bits × (length l.bits ≡ length l.initial.bits) × Gathered l.centroids l.g.radius l.planes l.e l.mark l.k l.stamp l.weight

@@ -1,7 +1,6 @@
 -- `filter_meet::prepare::file_all` meets its contract: the calls' promises, put together. Assumes nothing.
 use Rattle.filter_meet.proofs.Preparing.{prepared}
 use Rattle.filter_meet.proofs.prepare.file_all.Goals as goal
-use borrow.Author.Rules.{rules}
 use lib.ListN.{length}
 use mathlib.Core.Path.{◌≡◌, ◌∙◌}
 use native.Mathlib.Omega.{arith}

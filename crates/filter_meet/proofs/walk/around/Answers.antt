@@ -2,21 +2,19 @@
 use Prim.Native.Nat.{ℕ, ◌+◌, ◌-◌, ◌^◌, ◌≤◌, ◌<◌, min}
 use Rattle.cells.proofs.Fit.{cell-fits}
 use Rattle.cells.specs.Cells.{cell_at}
-use Rattle.filter.specs.Filter.{lowest, highest, outside, counts}
+use Rattle.filter.specs.Filter.{outside, counts}
 use Rattle.filter_look.specs.Steps.{gained}
 use Rattle.filter_meet.proofs.Taking.{took-none, counts-none, block-counts}
 use Rattle.filter_meet.proofs.walk.around.Goals as goal
 use Rattle.geom.specs.declared.Vec3.{Vec3}
-use borrow.Author.Rules.{rules}
+use lib.Ieee.{Float}
 use mathlib.Core.Bool.{Bool}
-use mathlib.Core.Path.{◌≡◌, sym, ap, ◌∙◌}
+use mathlib.Core.Path.{◌≡◌, ap, ◌∙◌}
 use native.Mathlib.Omega.{arith}
 
 -- the test speaks of the middles' box
-is-outside : (s : tie.Start) (t : Bool) → t ≡ outside s.args.g.lo s.args.g.hi s.args.g.radius s.args.q → outside (lowest s.args.centroids.now) (highest s.args.centroids.now) s.args.g.radius s.args.q ≡ t
-is-outside s t e =
-    let a = s.args in
-    sym (e ∙ ap (λ (v : Vec3). outside v a.g.hi a.g.radius a.q) s.requires.0.lo ∙ ap (λ (v : Vec3). outside (lowest a.centroids.now) v a.g.radius a.q) s.requires.0.hi)
+outside-is : (lo hi lo' hi' q : Vec3) (radius : Float) (t : Bool) → lo ≡ lo' → hi ≡ hi' → t ≡ outside lo hi radius q → outside lo' hi' radius q ≡ t
+outside-is lo hi lo' hi' q radius t e f g = cc
 
 -- one below and one above are near each other
 about : (x a b : ℕ) → x < 2 ^ 64 → a ≡ x - 1 → b ≡ min (x + 1) (2 ^ 64 - 1) → (a ≤ b) × (b < a + 2 ^ 32)
@@ -25,7 +23,7 @@ about x a b fit e f = (omega arith, omega arith)
 pub returns-then-is_outside : goal.returns-then-is_outside
 returns-then-is_outside c = let a = c.args in
     took-none (gained a.centroids.now a.g.radius a.q) a.mark a.stamp.now a.weight.now (counts a.centroids.now a.g.radius a.q) a.from
-    (counts-none a.centroids.now a.g.radius a.q (is-outside c.before.before.before.before.before.before.before.before.before c.is_outside.result c.is_outside.ensures ∙ c.if-is_outside.true)) c.requires.lists.counted
+    (counts-none a.centroids.now a.g.radius a.q (outside-is _ _ _ _ a.q a.g.radius _ c.requires.ready.lo c.requires.ready.hi c.is_outside.ensures ∙ c.if-is_outside.true)) c.requires.lists.counted
 
 pub block-requires : goal.block-requires
 block-requires c = let u = about c.cell_of-x.result c.below.result c.above.result (rw c.cell_of-x.ensures (cell-fits _ _ _)) c.below.ensures c.above.ensures in
@@ -40,6 +38,6 @@ returns c = let a = c.args in
     let radius = a.g.radius in
     block-counts a.centroids.now a.g q a.cell.now a.order.now a.first.now a.sorted.now r a.mark a.stamp.now a.weight.now c.block.new.stamp c.block.new.weight c.block.result (gained a.centroids.now radius q)
     c.cell_of-x.result c.cell_of-y.result c.cell_of-z.result c.below.result c.above.result c.below-2.result c.above-2.result c.below-3.result c.above-3.result
-    c.requires.lists.stamps c.requires.lists.weights (is-outside c.before.before.before.before.before.before.before.before.before.before.before.before.before.before.before.before.before.before.before.before.before.before.before.before.before.before.before.before c.is_outside.result c.is_outside.ensures ∙ c.if-is_outside.false)
+    c.requires.lists.stamps c.requires.lists.weights (outside-is _ _ _ _ a.q a.g.radius _ c.requires.ready.lo c.requires.ready.hi c.is_outside.ensures ∙ c.if-is_outside.false)
     (c.cell_of-x.ensures ∙ ap (λ (v : Vec3). cell_at q.x v.x radius) lo) (c.cell_of-y.ensures ∙ ap (λ (v : Vec3). cell_at q.y v.y radius) lo) (c.cell_of-z.ensures ∙ ap (λ (v : Vec3). cell_at q.z v.z radius) lo)
     c.below.ensures c.above.ensures c.below-2.ensures c.above-2.ensures c.below-3.ensures c.above-3.ensures c.block.ensures

@@ -1,6 +1,6 @@
 -- `filter_meet::walk::block` meets its contract. The invariant: the planes passed are met. Assumes nothing.
-use Prim.Native.Nat.{◌+◌, ◌-◌, ◌≤◌}
-use Rattle.filter_look.specs.Steps.{Lists, Took, near_box, gained}
+use Prim.Native.Nat.{◌+◌}
+use Rattle.filter_look.specs.Steps.{near_box, gained}
 use Rattle.filter_meet.proofs.Taking.{took-none, took_more, took-lists, near-grows-x, near-none-x}
 use Rattle.filter_meet.proofs.walk.block.Goals as goal
 use lib.ListN.{length}
@@ -23,8 +23,7 @@ pub overflow_add-x0 : goal.overflow_add-x0
 overflow_add-x0 c = omega (arith, c.loop-j-test.true, c.requires.ready.3)
 
 pub plane-count-requires : goal.plane-count-requires
-plane-count-requires c = let l = c.loop-j in
-    ((c.requires.ready.0, c.requires.ready.1, c.requires.ready.2), l.invariant.1)
+plane-count-requires c = record { ready = (c.requires.ready.0, c.requires.ready.1, c.requires.ready.2); lists = c.loop-j.invariant.1 }
 
 pub overflow_add-j : goal.overflow_add-j
 overflow_add-j c = omega (arith, c.loop-j-test.true, c.requires.ready.4)

@@ -1,11 +1,9 @@
 -- `filter_meet::walk::block` meets its contract. The invariant: the planes passed are met. Assumes nothing.
 use Prim.Native.Nat.{◌+◌, ◌-◌, ◌≤◌}
 use Rattle.filter_look.specs.Steps.{Lists, Took, near_box, gained}
-use Rattle.filter_meet.proofs.Taking.{took-none, took_more, took-lists, near-grows-x, near-none-x}
 use Rattle.filter_meet.proofs.walk.block.Given as goal
 use lib.ListN.{length}
-use mathlib.Core.Path.{◌≡◌, refl, sym, ◌∙◌}
-use native.Mathlib.Omega.{arith}
+use mathlib.Core.Path.{◌≡◌}
 
 abbrev pub invariant-loop-j : goal.invariant-loop-j
 invariant-loop-j l = (l.j ≤ l.more + 1) × Lists (length l.cell) l.mark l.count l.stamp l.weight l.bits × (length l.bits ≡ length l.initial.bits)

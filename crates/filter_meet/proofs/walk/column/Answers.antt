@@ -1,7 +1,6 @@
 -- `filter_meet::walk::column` meets its contract. The invariant: the positions passed are looked at, which is the walk of `cells`. Assumes nothing.
-use Prim.Native.Nat.{◌-◌, ◌≤◌, ◌<◌}
-use Rattle.filter_look.specs.Steps.{Lists}
-use Rattle.filter_meet.proofs.Walking.{Strode, stride-none, stride-more, stride-done, looked-lists}
+use Prim.Native.Nat.{◌<◌}
+use Rattle.filter_meet.proofs.Walking.{stride-none, stride-more, stride-done, looked-lists}
 use Rattle.filter_meet.proofs.walk.column.Goals as goal
 use lib.ListN.{length}
 use mathlib.Core.Path.{◌≡◌, refl, sym, ◌∙◌}
@@ -20,7 +19,7 @@ pub look-count-requires : goal.look-count-requires
 look-count-requires c = let l = c.loop-k in
     let f = c.requires.ready.filed in
     let lt : l.k < length c.args.cell.now = omega (arith, l.invariant, c.loop-k-test.true) in
-    ((c.requires.ready.settles, omega (arith, f.orders), omega (arith, c.requires.ready.sorteds), f.order_lt l.k lt), l.invariant.3)
+    record { settles = (c.requires.ready.settles, omega (arith, f.orders), omega (arith, c.requires.ready.sorteds), f.order_lt l.k lt); lists = l.invariant.3 }
 
 pub overflow_add-k : goal.overflow_add-k
 overflow_add-k c = omega arith

@@ -1,12 +1,10 @@
 -- `filter_meet::walk::column` meets its contract. The invariant: the positions passed are looked at, which is the walk of `cells`. Assumes nothing.
-use Prim.Native.Nat.{◌-◌, ◌≤◌, ◌<◌}
+use Prim.Native.Nat.{◌-◌, ◌≤◌}
 use Rattle.filter_look.specs.Steps.{Lists}
-use Rattle.filter_meet.proofs.Walking.{Strode, stride-none, stride-more, stride-done, looked-lists}
+use Rattle.filter_meet.proofs.Walking.{Strode}
 use Rattle.filter_meet.proofs.walk.column.Given as goal
 use lib.ListN.{length}
-use mathlib.Core.Path.{◌≡◌, refl, sym, ◌∙◌}
-use native.Mathlib.Nat.{le_antisymm}
-use native.Mathlib.Omega.{arith}
+use mathlib.Core.Path.{◌≡◌}
 
 abbrev pub invariant-loop-k : goal.invariant-loop-k
 invariant-loop-k l = (l.initial.k ≤ l.k) × (l.k ≤ l.to) × (l.to ≤ length l.cell) × Lists (length l.cell) l.mark l.count l.stamp l.weight l.bits × (length l.bits ≡ length l.initial.bits)

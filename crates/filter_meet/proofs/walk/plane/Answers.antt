@@ -1,6 +1,6 @@
 -- `filter_meet::walk::plane` meets its contract. The invariant: the columns passed are met. Assumes nothing.
-use Prim.Native.Nat.{◌+◌, ◌-◌, ◌≤◌}
-use Rattle.filter_look.specs.Steps.{Lists, Took, near_box, gained}
+use Prim.Native.Nat.{◌+◌}
+use Rattle.filter_look.specs.Steps.{near_box, gained}
 use Rattle.filter_meet.proofs.Taking.{took-none, took_more, took-lists, near-grows-y, near-none-y}
 use Rattle.filter_meet.proofs.walk.plane.Goals as goal
 use lib.ListN.{length}
@@ -23,8 +23,7 @@ pub overflow_add-y0 : goal.overflow_add-y0
 overflow_add-y0 c = omega (arith, c.loop-j-test.true, c.requires.ready.1)
 
 pub column-count-requires : goal.column-count-requires
-column-count-requires c = let l = c.loop-j in
-    (c.requires.ready.0, l.invariant.1)
+column-count-requires c = record { ready = c.requires.ready.0; lists = c.loop-j.invariant.1 }
 
 pub overflow_add-j : goal.overflow_add-j
 overflow_add-j c = omega (arith, c.loop-j-test.true, c.requires.ready.2)
