@@ -1,11 +1,11 @@
 -- `filter_entries::put_row` meets its contract. The invariant: the places passed are written and their weights cleared; a weight not yet passed is as lent. Assumes nothing.
-use Prim.Native.Nat.{ℕ, ◌+◌, ◌-◌, ◌≤◌, ◌<◌}
+use Prim.Native.Nat.{ℕ, ◌+◌}
 use Rattle.filter_entries.proofs.Writes.{written_none, written-more, cleared-none, cleared_more, cleared-next}
 use Rattle.filter_entries.proofs.put_row.Goals as goal
-use Rattle.filter_entries.specs.Entries.{product_at, written, cleared}
+use Rattle.filter_entries.specs.Entries.{product_at}
 use borrow.Author.Rules.{rules}
 use lib.Ieee.{Float, nan, binary64, mul, div}
-use lib.ListN.{length, get_or, set, length-set}
+use lib.ListN.{get_or, set, length-set}
 use mathlib.Core.List.{List}
 use mathlib.Core.Path.{◌≡◌, refl, ap, ◌∙◌}
 use native.Mathlib.Nat.{le_antisymm}
@@ -21,22 +21,22 @@ pub overflow_cast-i : goal.overflow_cast-i
 overflow_cast-i c = omega (arith, c.type_inv.found c.loop-k.k)
 
 pub offset_bounds-weight-i : goal.offset_bounds-weight-i
-offset_bounds-weight-i c = omega (arith, (let h : get_or c.args.found.now c.loop-k.k 0 < length c.loop-k.weight = omega (arith, c.requires.within.0.below c.loop-k.k c.loop-k-test.true, c.loop-k.invariant.1) in h))
+offset_bounds-weight-i c = omega (arith, c.requires.within.0.below c.loop-k.k c.loop-k-test.true, c.loop-k.invariant.1)
 
 pub bounds-weight-i : goal.bounds-weight-i
-bounds-weight-i c = (let h : get_or c.args.found.now c.loop-k.k 0 < length c.loop-k.weight = omega (arith, c.requires.within.0.below c.loop-k.k c.loop-k-test.true, c.loop-k.invariant.1) in h)
+bounds-weight-i c = omega (arith, c.requires.within.0.below c.loop-k.k c.loop-k-test.true, c.loop-k.invariant.1)
 
 pub offset_bounds-volumes-i : goal.offset_bounds-volumes-i
-offset_bounds-volumes-i c = omega (arith, (let h : get_or c.args.found.now c.loop-k.k 0 < length c.loop-k.weight = omega (arith, c.requires.within.0.below c.loop-k.k c.loop-k-test.true, c.loop-k.invariant.1) in h))
+offset_bounds-volumes-i c = omega (arith, c.requires.within.0.below c.loop-k.k c.loop-k-test.true, c.loop-k.invariant.1)
 
 pub bounds-volumes-i : goal.bounds-volumes-i
-bounds-volumes-i c = omega (arith, (let h : get_or c.args.found.now c.loop-k.k 0 < length c.loop-k.weight = omega (arith, c.requires.within.0.below c.loop-k.k c.loop-k-test.true, c.loop-k.invariant.1) in h), c.loop-k.invariant.1, c.requires.within.2)
+bounds-volumes-i c = omega (arith, c.requires.within.0.below c.loop-k.k c.loop-k-test.true, c.loop-k.invariant.1, c.requires.within.2)
 
 pub offset_bounds-weight-i-in-loop-k : goal.offset_bounds-weight-i-in-loop-k
-offset_bounds-weight-i-in-loop-k c = omega (arith, (let h : get_or c.args.found.now c.loop-k.k 0 < length c.loop-k.weight = omega (arith, c.requires.within.0.below c.loop-k.k c.loop-k-test.true, c.loop-k.invariant.1) in h))
+offset_bounds-weight-i-in-loop-k c = omega (arith, c.requires.within.0.below c.loop-k.k c.loop-k-test.true, c.loop-k.invariant.1)
 
 pub bounds-weight-i-in-loop-k : goal.bounds-weight-i-in-loop-k
-bounds-weight-i-in-loop-k c = (let h : get_or c.args.found.now c.loop-k.k 0 < length c.loop-k.weight = omega (arith, c.requires.within.0.below c.loop-k.k c.loop-k-test.true, c.loop-k.invariant.1) in h)
+bounds-weight-i-in-loop-k c = omega (arith, c.requires.within.0.below c.loop-k.k c.loop-k-test.true, c.loop-k.invariant.1)
 
 pub loop-k-preserved : goal.loop-k-preserved
 loop-k-preserved c = let a = c.args in

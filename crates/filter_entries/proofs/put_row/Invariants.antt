@@ -1,15 +1,10 @@
 -- `filter_entries::put_row` meets its contract. The invariant: the places passed are written and their weights cleared; a weight not yet passed is as lent. Assumes nothing.
-use Prim.Native.Nat.{ℕ, ◌+◌, ◌-◌, ◌≤◌, ◌<◌}
-use Rattle.filter_entries.proofs.Writes.{written_none, written-more, cleared-none, cleared_more, cleared-next}
+use Prim.Native.Nat.{◌-◌, ◌≤◌}
 use Rattle.filter_entries.proofs.put_row.Given as goal
 use Rattle.filter_entries.specs.Entries.{product_at, written, cleared}
-use borrow.Author.Rules.{rules}
-use lib.Ieee.{Float, nan, binary64, mul, div}
-use lib.ListN.{length, get_or, set, length-set}
-use mathlib.Core.List.{List}
-use mathlib.Core.Path.{◌≡◌, refl, ap, ◌∙◌}
-use native.Mathlib.Nat.{le_antisymm}
-use native.Mathlib.Omega.{arith}
+use lib.Ieee.{binary64, div}
+use lib.ListN.{length, get_or}
+use mathlib.Core.Path.{◌≡◌}
 
 abbrev pub invariant-loop-k : goal.invariant-loop-k
 invariant-loop-k l = (l.k ≤ l.count) × (length l.weight ≡ length l.initial.weight) × (length l.near ≡ length l.initial.near) × (length l.coef ≡ length l.initial.coef)

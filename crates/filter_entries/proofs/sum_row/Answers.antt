@@ -1,12 +1,8 @@
 -- `filter_entries::sum_row` meets its contract. The invariant: what is added up is the sum of the places passed. Assumes nothing.
-use Prim.Native.Nat.{◌-◌, ◌≤◌, ◌<◌}
 use Rattle.filter_entries.proofs.sum_row.Goals as goal
-use Rattle.filter_entries.specs.Entries.{product_at}
 use Rattle.lists.proofs.Laws.{sum_to-none, sum_to-more}
-use Rattle.lists.specs.Lists.{sum_to}
 use borrow.Author.Rules.{rules}
-use lib.ListN.{length, get_or}
-use mathlib.Core.Path.{◌≡◌, sym}
+use mathlib.Core.Path.{sym}
 use native.Mathlib.Nat.{le_antisymm}
 use native.Mathlib.Omega.{arith}
 
@@ -20,16 +16,16 @@ pub overflow_cast-i : goal.overflow_cast-i
 overflow_cast-i c = omega (arith, c.type_inv.found c.loop-k.k)
 
 pub offset_bounds-weight-i : goal.offset_bounds-weight-i
-offset_bounds-weight-i c = omega (arith, (c.requires.0.below c.loop-k.k c.loop-k-test.true))
+offset_bounds-weight-i c = omega (arith, c.requires.0.below c.loop-k.k c.loop-k-test.true)
 
 pub bounds-weight-i : goal.bounds-weight-i
-bounds-weight-i c = (c.requires.0.below c.loop-k.k c.loop-k-test.true)
+bounds-weight-i c = c.requires.0.below c.loop-k.k c.loop-k-test.true
 
 pub offset_bounds-volumes-i : goal.offset_bounds-volumes-i
-offset_bounds-volumes-i c = omega (arith, (c.requires.0.below c.loop-k.k c.loop-k-test.true))
+offset_bounds-volumes-i c = omega (arith, c.requires.0.below c.loop-k.k c.loop-k-test.true)
 
 pub bounds-volumes-i : goal.bounds-volumes-i
-bounds-volumes-i c = omega (arith, (c.requires.0.below c.loop-k.k c.loop-k-test.true), c.requires.1)
+bounds-volumes-i c = omega (arith, c.requires.0.below c.loop-k.k c.loop-k-test.true, c.requires.1)
 
 pub loop-k-preserved : goal.loop-k-preserved
 loop-k-preserved c = (search rules, rw c.loop-k.invariant.1 (sum_to-more _ _))
