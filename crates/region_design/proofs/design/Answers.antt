@@ -1,20 +1,17 @@
 -- `region_design::design` meets its contract. The loop's invariant: the places of the tetrahedra passed are written, and the rest is as lent. Assumes nothing.
-use Prim.Native.Nat.{ℕ, ◌≤◌, ◌<◌, ◌-◌}
+use Prim.Native.Nat.{ℕ, ◌≤◌, ◌<◌}
 use Rattle.lent.proofs.Lent.{unless-refused, unless-accepted}
 use Rattle.lent.specs.Points.{stored}
 use Rattle.lists.proofs.Bools.{at-most-zero}
 use Rattle.lists.proofs.Laws.{overwrite-none, overwrite-more, passes_on, neither}
 use Rattle.lists.specs.Lists.{overwrite}
-use Rattle.mesh.specs.Mesh.{volume_of, centroid_of}
 use Rattle.region_design.proofs.design.Goals as goal
-use Rattle.region_design.proofs.design.Invariants.{middle_at}
-use Rattle.region_design.proofs.design.Invariants.{volume_at}
+use Rattle.region_design.proofs.design.Invariants.{volume_at, middle_at}
 use Rattle.region_design.specs.Design.{design_refusal}
-use borrow.Author.Rules.{rules}
 use borrow.Author.Tests.{ltb-false}
 use lib.Ieee.{Float}
-use lib.ListN.{length, get_or, set, length-set}
-use mathlib.Core.List.{List, []}
+use lib.ListN.{length, set, length-set}
+use mathlib.Core.List.{List}
 use mathlib.Core.Path.{◌≡◌, refl, ap, sym, ◌∙◌}
 use native.Mathlib.Nat.{le_antisymm}
 use native.Mathlib.Omega.{arith}
@@ -29,9 +26,6 @@ long-enough nodes tets v m e =
     let short = neither _ _ (passes_on _ 14 0 (omega arith) (passes_on _ 9 _ (omega arith) (passes_on _ 3 _ (omega arith) e).1).1).0 in
     (ltb-false _ _ short.0, ltb-false _ _ short.1)
 
-pub refusal-r-requires : goal.refusal-r-requires
-refusal-r-requires c = tt
-
 pub returns-then-r-gt0 : goal.returns-then-r-gt0
 returns-then-r-gt0 c = record {
   refusal = c.refusal-r.ensures;
@@ -42,42 +36,6 @@ returns-then-r-gt0 c = record {
 pub loop-i-init : goal.loop-i-init
 loop-i-init c = let long = long-enough _ _ _ _ (sym c.refusal-r.ensures ∙ at-most-zero _ c.if-r-gt0.false) in
     (omega arith, long.0, long.1, refl, refl, sym (overwrite-none _ _), sym (overwrite-none _ _))
-
-pub offset_bounds-tets-i : goal.offset_bounds-tets-i
-offset_bounds-tets-i c = omega arith
-
-pub bounds-tets-i : goal.bounds-tets-i
-bounds-tets-i c = omega arith
-
-pub volume-requires : goal.volume-requires
-volume-requires c = tt
-
-pub offset_bounds-volumes-i : goal.offset_bounds-volumes-i
-offset_bounds-volumes-i c = omega arith
-
-pub bounds-volumes-i : goal.bounds-volumes-i
-bounds-volumes-i c = omega arith
-
-pub offset_bounds-tets-i-in-loop-i : goal.offset_bounds-tets-i-in-loop-i
-offset_bounds-tets-i-in-loop-i c = omega arith
-
-pub bounds-tets-i-in-loop-i : goal.bounds-tets-i-in-loop-i
-bounds-tets-i-in-loop-i c = omega arith
-
-pub centroid-m-requires : goal.centroid-m-requires
-centroid-m-requires c = tt
-
-pub offset_bounds-centroids-i : goal.offset_bounds-centroids-i
-offset_bounds-centroids-i c = omega arith
-
-pub bounds-centroids-i : goal.bounds-centroids-i
-bounds-centroids-i c = omega arith
-
-pub overflow_add-i : goal.overflow_add-i
-overflow_add-i c = omega arith
-
-pub loop-i-smaller : goal.loop-i-smaller
-loop-i-smaller c = omega arith
 
 pub loop-i-preserved : goal.loop-i-preserved
 loop-i-preserved c = let inv = c.loop-i.invariant in

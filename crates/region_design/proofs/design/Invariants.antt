@@ -1,21 +1,13 @@
 -- `region_design::design` meets its contract. The loop's invariant: the places of the tetrahedra passed are written, and the rest is as lent. Assumes nothing.
-use Prim.Native.Nat.{ℕ, ◌≤◌, ◌<◌, ◌-◌}
-use Rattle.lent.proofs.Lent.{unless-refused, unless-accepted}
+use Prim.Native.Nat.{ℕ, ◌≤◌, ◌-◌}
 use Rattle.lent.specs.Points.{stored}
-use Rattle.lists.proofs.Bools.{at-most-zero}
-use Rattle.lists.proofs.Laws.{overwrite-none, overwrite-more, passes_on, neither}
 use Rattle.lists.specs.Lists.{overwrite}
 use Rattle.mesh.specs.Mesh.{volume_of, centroid_of}
 use Rattle.region_design.proofs.design.Given as goal
-use Rattle.region_design.specs.Design.{design_refusal}
-use borrow.Author.Rules.{rules}
-use borrow.Author.Tests.{ltb-false}
 use lib.Ieee.{Float}
-use lib.ListN.{length, get_or, set, length-set}
+use lib.ListN.{length, get_or}
 use mathlib.Core.List.{List, []}
-use mathlib.Core.Path.{◌≡◌, refl, ap, sym, ◌∙◌}
-use native.Mathlib.Nat.{le_antisymm}
-use native.Mathlib.Omega.{arith}
+use mathlib.Core.Path.{◌≡◌}
 
 -- what is written at place k
 abbrev pub volume_at : List (List Float) → List (List ℕ) → ℕ → Float

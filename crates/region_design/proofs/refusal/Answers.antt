@@ -2,7 +2,6 @@
 use Rattle.lists.proofs.Laws.{choose-true, choose-false}
 use Rattle.region_design.proofs.refusal.Goals as goal
 use Rattle.region_design.specs.Design.{design_refusal}
-use borrow.Author.Rules.{rules}
 use mathlib.Core.Path.{sym, ◌∙◌}
 
 pub returns-then-tets-nodes : goal.returns-then-tets-nodes
