@@ -1,15 +1,11 @@
 -- `update_straight::certify::kept_at` meets its contract: what is added up is the sum of the places passed. Assumes nothing.
-use Prim.Native.Nat.{◌-◌, ◌≤◌}
 use Rattle.lists.proofs.Laws.{sum_to-none, sum_to-more}
 use Rattle.lists.specs.Lists.{sum_to}
 use Rattle.update_straight.proofs.Reckoned.{dot-is}
 use Rattle.update_straight.proofs.certify.kept_at.Goals as goal
-use Rattle.update_value.specs.Value.{next_of}
 use borrow.Author.Rules.{rules}
-use lib.Ieee.{nan, binary64, add, mul}
-use lib.ListN.{length, get_or}
-use mathlib.Core.Bool.{false}
-use mathlib.Core.Path.{◌≡◌, sym, ap, ◌∙◌}
+use lib.Ieee.{binary64, add}
+use mathlib.Core.Path.{sym, ap, ◌∙◌}
 use native.Mathlib.Nat.{le_antisymm}
 
 pub loop-i-init : goal.loop-i-init

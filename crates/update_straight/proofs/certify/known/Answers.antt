@@ -2,7 +2,6 @@
 use Rattle.ieee.proofs.Basic.{holds}
 use Rattle.update_straight.proofs.Settled.{known_is, nothing_known}
 use Rattle.update_straight.proofs.certify.known.Goals as goal
-use borrow.Author.Rules.{rules}
 use lib.Ieee.{binary64, fits}
 use mathlib.Core.Path.{refl, sym, ◌∙◌}
 

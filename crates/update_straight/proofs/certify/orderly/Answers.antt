@@ -1,14 +1,9 @@
 -- `update_straight::certify::orderly` meets its contract: whether any place passed is unusual. Assumes nothing.
-use Prim.Native.Nat.{◌-◌, ◌≤◌}
 use Rattle.lists.proofs.Laws.{any_none, any_step}
-use Rattle.lists.specs.Lists.{any_to}
 use Rattle.update_straight.proofs.certify.orderly.Goals as goal
-use Rattle.update_straight.specs.Steps.{usual, orderly}
+use Rattle.update_straight.specs.Steps.{orderly}
 use borrow.Author.Rules.{rules}
-use lib.Ieee.{nan}
-use lib.ListN.{length, get_or}
-use mathlib.Core.Bool.{not}
-use mathlib.Core.Path.{◌≡◌, sym}
+use mathlib.Core.Path.{sym}
 use native.Mathlib.Nat.{le_antisymm}
 
 pub loop-i-init : goal.loop-i-init

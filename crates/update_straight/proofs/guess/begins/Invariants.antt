@@ -1,7 +1,6 @@
 -- `update_straight::guess::begins` stays within its lists; it promises nothing. Assumes nothing.
 use Prim.Native.Nat.{◌-◌, ◌≤◌}
 use Rattle.update_straight.proofs.guess.begins.Given as goal
-use borrow.Author.Rules.{rules}
 use lib.ListN.{length}
 
 abbrev pub invariant-loop-i : goal.invariant-loop-i

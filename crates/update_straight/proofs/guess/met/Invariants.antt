@@ -1,7 +1,6 @@
 -- `update_straight::guess::met` ends after 60 turns and stays within its lists; it promises nothing. Assumes nothing.
 use Prim.Native.Nat.{◌-◌, ◌≤◌}
 use Rattle.update_straight.proofs.guess.met.Given as goal
-use borrow.Author.Rules.{rules}
 
 abbrev pub invariant-loop-turns : goal.invariant-loop-turns
 invariant-loop-turns l = l.turns ≤ 60

@@ -1,7 +1,6 @@
 -- `update_straight::guess::reaches` stays within its lists; it promises nothing. Assumes nothing.
 use Prim.Native.Nat.{◌-◌, ◌≤◌}
 use Rattle.update_straight.proofs.guess.reaches.Given as goal
-use borrow.Author.Rules.{rules}
 use lib.ListN.{length}
 use mathlib.Core.Path.{◌≡◌}
 
