@@ -1,12 +1,8 @@
 -- `run_open_checks::ask_solid` meets its contract: the places passed are filled. Assumes nothing.
-use Prim.Native.Nat.{◌-◌, ◌≤◌}
-use Rattle.ieee.specs.Basic.{one64}
 use Rattle.lists.proofs.Laws.{overwrite-none, overwrite-more}
-use Rattle.lists.specs.Lists.{overwrite}
 use Rattle.run_open_checks.proofs.ask_solid.Goals as goal
 use borrow.Author.Rules.{rules}
-use lib.ListN.{length}
-use mathlib.Core.Path.{◌≡◌, refl, sym}
+use mathlib.Core.Path.{refl, sym}
 use native.Mathlib.Nat.{le_antisymm}
 use native.Mathlib.Omega.{arith}
 

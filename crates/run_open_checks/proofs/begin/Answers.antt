@@ -3,7 +3,6 @@ use Rattle.oc_goal.specs.Goal.{target_of, start_density}
 use Rattle.oc_start.specs.Start.{start_design}
 use Rattle.run_open_checks.proofs.begin.Goals as goal
 use Rattle.run_plain.specs.Formulas.{sum_of}
-use borrow.Author.Rules.{rules}
 use lib.Ieee.{Float}
 use lib.ListN.{length, drop}
 use lib.Seq.{length-take-le}

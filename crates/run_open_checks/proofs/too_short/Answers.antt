@@ -2,7 +2,6 @@
 use Rattle.lent.specs.Lent.{short}
 use Rattle.run_open_checks.proofs.too_short.Goals as goal
 use Rattle.run_plain.specs.Lent.{run_short, open_short}
-use borrow.Author.Rules.{rules}
 use native.Mathlib.Numerals.{add-one}
 
 pub returns : goal.returns
