@@ -1,20 +1,19 @@
 -- `filter_row::settle` meets its contract: the marked elements rise, so they are within the lists and apart. Assumes nothing.
-use Prim.Native.Nat.{◌+◌, ◌≤◌}
+use Prim.Native.Nat.{◌+◌}
 use Rattle.filter_look.proofs.Chosen.{chosen-le, found-rising}
 use Rattle.filter_look.proofs.Chosen.{within-found}
 use Rattle.filter_look.specs.Steps.{stamped}
 use Rattle.filter_row.proofs.Room.{has_room}
 use Rattle.filter_row.proofs.settle.Goals as goal
-use borrow.Author.Rules.{rules}
 use lib.ListN.{length}
 use mathlib.Core.Path.{refl, sym, ◌∙◌}
 use native.Mathlib.Omega.{arith}
 
 pub overflow_add-end : goal.overflow_add-end
-overflow_add-end c = omega (arith, (let h : c.args.count ≤ length c.args.stamp.now = omega (arith, c.requires.count_value, chosen-le (stamped c.args.stamp.now c.args.mark) (length c.args.stamp.now)) in h), c.requires.stamp_len_bound)
+overflow_add-end c = omega (arith, c.requires.count_value, chosen-le (stamped c.args.stamp.now c.args.mark) (length c.args.stamp.now), c.requires.stamp_len_bound)
 
 pub refusal-number-requires : goal.refusal-number-requires
-refusal-number-requires c = (omega (arith, c.requires.stamp_len_bound.1), omega (arith, (let h : c.args.count ≤ length c.args.stamp.now = omega (arith, c.requires.count_value, chosen-le (stamped c.args.stamp.now c.args.mark) (length c.args.stamp.now)) in h), c.requires.stamp_len_bound))
+refusal-number-requires c = (omega (arith, c.requires.stamp_len_bound.1), omega (arith, c.requires.count_value, chosen-le (stamped c.args.stamp.now c.args.mark) (length c.args.stamp.now), c.requires.stamp_len_bound))
 
 pub returns-then-number-gt0 : goal.returns-then-number-gt0
 returns-then-number-gt0 c = record { ends = refl; numbers = c.refusal-number.ensures; all = λ e. absurd (omega (arith, c.if-number-gt0.true)); writes = λ e. absurd (omega (arith, c.if-number-gt0.true)) }
