@@ -1,28 +1,16 @@
 -- `mesh_lattice::clear` meets its contract. The loop's invariant: the places passed are 0, and the rest is as lent. Assumes nothing.
-use Prim.Native.Nat.{ℕ, ◌≤◌, ◌-◌}
+use Prim.Native.Nat.{ℕ}
 use Rattle.lists.proofs.Laws.{overwrite-none, overwrite-more}
 use Rattle.lists.specs.Lists.{overwrite}
 use Rattle.mesh_lattice.proofs.clear.Goals as goal
-use lib.ListN.{length, set, length-set}
+use lib.ListN.{set, length-set}
 use mathlib.Core.List.{List}
-use mathlib.Core.Path.{◌≡◌, refl, ap, sym, ◌∙◌}
+use mathlib.Core.Path.{refl, ap, sym, ◌∙◌}
 use native.Mathlib.Nat.{le_antisymm}
 use native.Mathlib.Omega.{arith}
 
 pub loop-k-init : goal.loop-k-init
 loop-k-init c = (omega arith, refl, sym (overwrite-none _ _))
-
-pub offset_bounds-edges-k : goal.offset_bounds-edges-k
-offset_bounds-edges-k c = omega arith
-
-pub bounds-edges-k : goal.bounds-edges-k
-bounds-edges-k c = omega arith
-
-pub overflow_add-k : goal.overflow_add-k
-overflow_add-k c = omega arith
-
-pub loop-k-smaller : goal.loop-k-smaller
-loop-k-smaller c = omega arith
 
 pub loop-k-preserved : goal.loop-k-preserved
 loop-k-preserved c = let inv = c.loop-k.invariant in

@@ -1,7 +1,6 @@
 -- `mesh_lattice::corner_at` meets its contract: its code is the definition. Assumes nothing.
 use Rattle.mesh_lattice.proofs.corner_at.Goals as goal
 use Rattle.mesh_lattice.specs.Lattice.{corner_of}
-use borrow.Author.Rules.{rules}
 use mathlib.Core.Path.{refl}
 
 pub returns : goal.returns

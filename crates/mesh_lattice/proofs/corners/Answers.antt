@@ -8,7 +8,6 @@ use Rattle.mesh_lattice.specs.Bounds.{InsideAll}
 use Rattle.mesh_lattice.specs.Lattice.{place_of, way_of, four_of}
 use Rattle.mesh_lattice.specs.declared.Four.{Four}
 use Rattle.mesh_lattice.specs.declared.Grid.{Grid}
-use borrow.Author.Rules.{rules}
 use lib.Ieee.{Float, lt}
 use mathlib.Core.Path.{◌≡◌, ap, sym, ◌∙◌, subst}
 
@@ -31,8 +30,8 @@ place-requires-4 c = (c.requires.0, ((let h : InsideAll c.args.g c.way-w.result 
 pub returns-then-triple : goal.returns-then-triple
 unfolding four_of
 returns-then-triple c = ap (λ (w : Four). record { a = w.a; b = w.c; c = w.b; d = w.d }) c.way-w.ensures
-    ∙ sym (choose-true _ _ _ (sym (ap (λ (v : Float). lt v zero64) (c.triple.ensures ∙ (λ i. triple (c.place.ensures i) (c.place-2.ensures i) (c.place-3.ensures i) (c.place-4.ensures i)) ∙ ap (turn c.args.g) c.way-w.ensures)) ∙ c.if-triple.true))
+    ∙ sym (choose-true _ _ _ (sym (ap (λ (v : Float). lt v zero64) ((let h : c.triple.result ≡ turn c.args.g (way_of c.args.g c.args.e) = c.triple.ensures ∙ (λ i. triple (c.place.ensures i) (c.place-2.ensures i) (c.place-3.ensures i) (c.place-4.ensures i)) ∙ ap (turn c.args.g) c.way-w.ensures in h))) ∙ c.if-triple.true))
 
 pub returns : goal.returns
 unfolding four_of
-returns c = c.way-w.ensures ∙ sym (choose-false _ _ _ (sym (ap (λ (v : Float). lt v zero64) (c.triple.ensures ∙ (λ i. triple (c.place.ensures i) (c.place-2.ensures i) (c.place-3.ensures i) (c.place-4.ensures i)) ∙ ap (turn c.args.g) c.way-w.ensures)) ∙ c.if-triple.false))
+returns c = c.way-w.ensures ∙ sym (choose-false _ _ _ (sym (ap (λ (v : Float). lt v zero64) ((let h : c.triple.result ≡ turn c.args.g (way_of c.args.g c.args.e) = c.triple.ensures ∙ (λ i. triple (c.place.ensures i) (c.place-2.ensures i) (c.place-3.ensures i) (c.place-4.ensures i)) ∙ ap (turn c.args.g) c.way-w.ensures in h))) ∙ c.if-triple.false))

@@ -3,7 +3,6 @@ use Prim.Native.Nat.{ℕ, suc}
 use Rattle.lists.proofs.Laws.{choose-true, choose-false}
 use Rattle.mesh_lattice.proofs.direction.Goals as goal
 use Rattle.mesh_lattice.specs.Filing.{index_in}
-use borrow.Author.Rules.{rules}
 use borrow.Author.Tests.{eq-eqb, ne_eqb}
 use mathlib.Core.List.{List, [], ◌∷◌}
 use mathlib.Core.Path.{◌≡◌, refl, ap, sym, ◌∙◌}

@@ -2,7 +2,6 @@
 use Rattle.geom.specs.Vectors.{plus, scaled}
 use Rattle.mesh_lattice.proofs.middle.Goals as goal
 use Rattle.mesh_lattice.specs.Lattice.{half64}
-use borrow.Author.Rules.{rules}
 use mathlib.Core.Path.{◌∙◌}
 
 pub returns : goal.returns

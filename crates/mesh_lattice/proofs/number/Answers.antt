@@ -2,7 +2,6 @@
 use Rattle.mesh_lattice.proofs.Numbers.{parts}
 use Rattle.mesh_lattice.proofs.number.Goals as goal
 use Rattle.mesh_lattice.specs.Lattice.{number_of}
-use borrow.Author.Rules.{rules}
 use mathlib.Core.Path.{refl}
 use native.Mathlib.Omega.{arith}
 

@@ -1,6 +1,5 @@
 -- `mesh_lattice::put_node` meets its contract: a store past the end changes nothing. Assumes nothing.
 use Rattle.mesh_lattice.proofs.put_node.Goals as goal
-use borrow.Author.Rules.{rules}
 use lib.Seq.{set_out}
 use mathlib.Core.Path.{sym}
 

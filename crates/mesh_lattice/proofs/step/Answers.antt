@@ -2,7 +2,6 @@
 use Rattle.lists.proofs.Laws.{choose-true, choose-false}
 use Rattle.mesh_lattice.proofs.step.Goals as goal
 use Rattle.mesh_lattice.specs.Lattice.{stepped}
-use borrow.Author.Rules.{rules}
 use borrow.Author.Tests.{eq-eqb, ne_eqb}
 use mathlib.Core.Path.{sym, ◌∙◌}
 

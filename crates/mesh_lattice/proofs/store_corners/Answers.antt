@@ -1,5 +1,5 @@
 -- `mesh_lattice::store_corners` meets its contract. The loop's invariant: the corners passed are stored, and the rest is as lent. Assumes nothing.
-use Prim.Native.Nat.{ℕ, ◌≤◌, ◌<◌, ◌-◌}
+use Prim.Native.Nat.{ℕ, ◌<◌}
 use Rattle.lent.specs.Points.{stored}
 use Rattle.lists.proofs.Laws.{overwrite-none, overwrite-more}
 use Rattle.lists.specs.Lists.{overwrite}
@@ -8,7 +8,7 @@ use Rattle.mesh_lattice.proofs.Ways.{corner-inside}
 use Rattle.mesh_lattice.proofs.store_corners.Goals as goal
 use Rattle.mesh_lattice.specs.Bounds.{Inside}
 use Rattle.mesh_lattice.specs.Lattice.{corners_in, place_of, node_with}
-use lib.ListN.{length, set, length-set}
+use lib.ListN.{set, length-set}
 use mathlib.Core.List.{[]}
 use mathlib.Core.Path.{◌≡◌, refl, ap, sym, ◌∙◌, subst}
 use native.Mathlib.Omega.{arith}
@@ -34,9 +34,6 @@ bounds-nodes-k c = omega (arith, c.corner_count-n.ensures, c.requires.1)
 
 pub overflow_add-k : goal.overflow_add-k
 overflow_add-k c = omega (arith, c.corner_count-n.ensures, c.requires.0.corners)
-
-pub loop-k-smaller : goal.loop-k-smaller
-loop-k-smaller c = omega arith
 
 pub loop-k-preserved : goal.loop-k-preserved
 loop-k-preserved c = let inv = c.loop-k.invariant in

@@ -1,17 +1,11 @@
 -- `mesh_lattice::store_corners` meets its contract. The loop's invariant: the corners passed are stored, and the rest is as lent. Assumes nothing.
-use Prim.Native.Nat.{ℕ, ◌≤◌, ◌<◌, ◌-◌}
-use Rattle.lent.specs.Points.{stored}
-use Rattle.lists.proofs.Laws.{overwrite-none, overwrite-more}
+use Prim.Native.Nat.{◌≤◌, ◌-◌}
 use Rattle.lists.specs.Lists.{overwrite}
-use Rattle.mesh_lattice.proofs.Filed.{node-corner}
-use Rattle.mesh_lattice.proofs.Ways.{corner-inside}
 use Rattle.mesh_lattice.proofs.store_corners.Given as goal
-use Rattle.mesh_lattice.specs.Bounds.{Inside}
-use Rattle.mesh_lattice.specs.Lattice.{corners_in, place_of, node_with}
-use lib.ListN.{length, set, length-set}
+use Rattle.mesh_lattice.specs.Lattice.{node_with}
+use lib.ListN.{length}
 use mathlib.Core.List.{[]}
-use mathlib.Core.Path.{◌≡◌, refl, ap, sym, ◌∙◌, subst}
-use native.Mathlib.Omega.{arith}
+use mathlib.Core.Path.{◌≡◌}
 
 abbrev pub invariant-loop-k : goal.invariant-loop-k
 invariant-loop-k l = (l.k ≤ l.n) × (length l.nodes ≡ length l.initial.nodes) × (l.nodes ≡ overwrite (node_with l.g []) l.k l.initial.nodes)

@@ -4,7 +4,6 @@ use Rattle.mesh_lattice.proofs.Ways.{Below, first_below, step-below}
 use Rattle.mesh_lattice.proofs.way.Goals as goal
 use Rattle.mesh_lattice.specs.Lattice.{stepped, way_of}
 use Rattle.mesh_lattice.specs.declared.Corner.{Corner}
-use borrow.Author.Rules.{rules}
 use mathlib.Core.Path.{sym, ◌∙◌, subst}
 use native.Mathlib.Omega.{arith}
 
