@@ -1,5 +1,4 @@
 -- `region_off_centre::off_centre` meets its contract. The loop's invariant: the least and the greatest so far. Assumes nothing.
-use Prim.Native.Nat.{◌≤◌, ◌-◌}
 use Rattle.ieee.specs.Basic.{min_of, max_of}
 use Rattle.lent.specs.Points.{point}
 use Rattle.lists.proofs.Bools.{at-most-zero}
@@ -16,9 +15,6 @@ use mathlib.Core.Path.{◌≡◌, refl, sym, ap, ◌∙◌}
 use native.Mathlib.Nat.{le_antisymm}
 use native.Mathlib.Omega.{arith}
 
-pub refusal-r-requires : goal.refusal-r-requires
-refusal-r-requires c = tt
-
 pub returns-then-r-gt0 : goal.returns-then-r-gt0
 unfolding off_centre_of
 returns-then-r-gt0 c = ap Refused c.refusal-r.ensures ∙ sym (choose-false _ _ _ (ne_eqb _ 0 (λ (z : refusal_of _ _ ≡ 0). omega (arith, c.if-r-gt0.true, c.refusal-r.ensures))))
@@ -26,24 +22,6 @@ returns-then-r-gt0 c = ap Refused c.refusal-r.ensures ∙ sym (choose-false _ _ 
 pub loop-i-init : goal.loop-i-init
 unfolding lowest highest fold_to div of_bits neg
 loop-i-init c = (omega arith, refl, refl)
-
-pub offset_bounds-points-i : goal.offset_bounds-points-i
-offset_bounds-points-i c = omega arith
-
-pub bounds-points-i : goal.bounds-points-i
-bounds-points-i c = omega arith
-
-pub point-requires : goal.point-requires
-point-requires c = tt
-
-pub reach-d-requires : goal.reach-d-requires
-reach-d-requires c = tt
-
-pub min-lo-requires : goal.min-lo-requires
-min-lo-requires c = tt
-
-pub max-hi-requires : goal.max-hi-requires
-max-hi-requires c = tt
 
 pub overflow_add-i : goal.overflow_add-i
 overflow_add-i c = omega (arith, c.before.before.before.before.before)
@@ -60,9 +38,6 @@ loop-i-preserved c = let a = c.args in
       c.min-lo.ensures ∙ (λ i. min_of (l.invariant.1 i) (d i)) ∙ fold_to-more (λ k lo. min_of lo (reach_of a.mirror (point (get_or a.points.now k [])))) _ l.i,
       c.max-hi.ensures ∙ (λ i. max_of (l.invariant.2 i) (d i)) ∙ fold_to-more (λ k hi. max_of hi (reach_of a.mirror (point (get_or a.points.now k [])))) _ l.i,
     )
-
-pub weigh-requires : goal.weigh-requires
-weigh-requires c = tt
 
 pub returns : goal.returns
 unfolding off_centre_of

@@ -3,7 +3,6 @@ use Rattle.geom.specs.Vectors.{dot}
 use Rattle.geom.specs.declared.Vec3.{Vec3}
 use Rattle.region_off_centre.proofs.reach.Goals as goal
 use Rattle.region_off_centre.specs.OffCentre.{reach_of}
-use borrow.Author.Rules.{rules}
 use mathlib.Core.Path.{ap, ◌∙◌}
 
 pub returns : goal.returns

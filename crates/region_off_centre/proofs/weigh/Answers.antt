@@ -4,7 +4,6 @@ use Rattle.lists.proofs.Laws.{choose-true, choose-false}
 use Rattle.region_off_centre.proofs.weigh.Goals as goal
 use Rattle.region_off_centre.specs.OffCentre.{tenth64, balance_of}
 use Rattle.region_off_centre.specs.declared.Balance.TheVariants.{Reaches}
-use borrow.Author.Rules.{rules}
 use lib.Ieee.{binary64, sub, mul, div, le, lt}
 use mathlib.Core.Bool.{◌&&◌}
 use mathlib.Core.Path.{sym, ◌∙◌}
