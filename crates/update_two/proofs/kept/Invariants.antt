@@ -1,15 +1,9 @@
 -- `update_two::kept` meets its contract. The invariant: the sums are those of the elements passed. Assumes nothing.
-use Prim.Native.Nat.{◌+◌, ◌-◌, ◌≤◌}
-use Rattle.lists.proofs.Laws.{sum_to-none}
+use Prim.Native.Nat.{◌-◌, ◌≤◌}
 use Rattle.lists.specs.Lists.{sum_to}
-use Rattle.oc_project.specs.Project.{below_of, whole_of}
-use Rattle.update_two.proofs.Laws.{part_at, parts_are}
 use Rattle.update_two.proofs.kept.Given as goal
 use Rattle.update_two.specs.Part.{part}
-use borrow.Author.Rules.{rules}
-use mathlib.Core.Path.{◌≡◌, sym, ap, ◌∙◌}
-use native.Mathlib.Nat.{le_antisymm}
-use native.Mathlib.Omega.{arith}
+use mathlib.Core.Path.{◌≡◌}
 
 abbrev pub invariant-loop-e : goal.invariant-loop-e
 invariant-loop-e l = (l.e ≤ l.n) × (l.sum.a ≡ sum_to (part l.beta l.starts l.near l.coef l.volumes l.passive l.x) l.e) × (l.sum.b ≡ sum_to (part l.beta l.starts l.near l.coef l.volumes l.passive l.y) l.e)
