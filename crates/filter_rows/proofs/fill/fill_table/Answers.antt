@@ -2,27 +2,30 @@
 use Rattle.filter_meet.proofs.Preparing.{ready}
 use Rattle.filter_row.proofs.OneRow.{clean}
 use Rattle.filter_rows.proofs.fill.fill_table.Goals as goal
-use borrow.Author.Rules.{rules}
 use lib.ListN.{length}
 use mathlib.Core.Path.{◌∙◌}
 use native.Mathlib.Omega.{arith}
 
 pub file_all-buckets-requires : goal.file_all-buckets-requires
-file_all-buckets-requires c = ((c.requires.some, c.requires.few), (c.requires.cells, c.requires.orders, c.requires.firsts, c.requires.sorteds, c.requires.founds))
+file_all-buckets-requires c = let r = c.requires in
+    record { centroids_nonzero = (r.some, r.few); cell_len = (r.cells, r.orders, r.firsts, r.sorteds, r.founds) }
 
 pub all_rows-requires : goal.all_rows-requires
 all_rows-requires c = let a = c.args in
-    record { ready = (
-        ready a.centroids.now c.lower-lo.result c.upper-hi.result a.radius c.limit_of-limit.result c.file_all-buckets.new.cell c.file_all-buckets.new.order c.file_all-buckets.new.first c.file_all-buckets.new.sorted c.file_all-buckets.result
-            c.lower-lo.ensures c.upper-hi.ensures c.limit_of-limit.ensures c.requires.few c.file_all-buckets.ensures,
+    let f = c.file_all-buckets in record {
+      ready = (
+        ready a.centroids.now c.lower-lo.result c.upper-hi.result a.radius c.limit_of-limit.result f.new.cell f.new.order f.new.first f.new.sorted f.result
+            c.lower-lo.ensures c.upper-hi.ensures c.limit_of-limit.ensures c.requires.few f.ensures,
         c.requires.three,
         c.unit_planes-held.ensures,
-      ); clean = (
+      );
+      clean = (
         clean (length a.centroids.now) c.words.new.l c.floats.new.l c.longs.new.l a.stamp.now a.weight.now c.requires.few c.requires.stamps c.requires.weights (omega (arith, c.requires.maps, c.longs.auto.l)) c.words.ensures c.floats.ensures,
         c.requires.volumed,
-        omega (arith, c.requires.founds, c.file_all-buckets.auto.place),
+        omega (arith, c.requires.founds, f.auto.place),
         c.requires.begun,
-      ) }
+      );
+    }
 
 pub shape_of-cell : goal.shape_of-cell
 shape_of-cell c = c.file_all-buckets.auto.cell

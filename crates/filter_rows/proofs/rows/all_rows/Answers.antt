@@ -1,7 +1,5 @@
 -- `filter_rows::rows::all_rows` meets its contract. The invariant: the rows passed are laid one after the other, and none was refused. Assumes nothing.
-use Prim.Native.Nat.{◌-◌, ◌≤◌}
-use Rattle.filter_row.specs.Row.{Clean}
-use Rattle.filter_rows.proofs.Table.{Laid, laid-first, laid-refused, end-small, laid_next, laid-all}
+use Rattle.filter_rows.proofs.Table.{laid-first, laid-refused, end-small, laid_next, laid-all}
 use Rattle.filter_rows.proofs.rows.all_rows.Goals as goal
 use lib.ListN.{length, set, length-set}
 use mathlib.Core.Path.{◌≡◌, refl, sym, ◌∙◌}
@@ -17,7 +15,10 @@ loop-e-init c = let a = c.args in
 
 pub build_row-r-requires : goal.build_row-r-requires
 build_row-r-requires c = let l = c.loop-e in
-    ((c.requires.ready.0, c.loop-e-test.true, c.requires.ready.1, c.requires.ready.2), (l.invariant.1, c.requires.clean.1, omega (arith, l.invariant.3, c.requires.clean.2), l.invariant.4.small))
+    record {
+      ready = (c.requires.ready.0, c.loop-e-test.true, c.requires.ready.1, c.requires.ready.2);
+      clean = (l.invariant.1, c.requires.clean.1, omega (arith, l.invariant.3, c.requires.clean.2), l.invariant.4.small);
+    }
 
 pub overflow_add-e : goal.overflow_add-e
 overflow_add-e c = omega (arith, c.loop-e-test.true)

@@ -1,12 +1,10 @@
 -- `filter_rows::rows::all_rows` meets its contract. The invariant: the rows passed are laid one after the other, and none was refused. Assumes nothing.
 use Prim.Native.Nat.{◌-◌, ◌≤◌}
 use Rattle.filter_row.specs.Row.{Clean}
-use Rattle.filter_rows.proofs.Table.{Laid, laid-first, laid-refused, end-small, laid_next, laid-all}
+use Rattle.filter_rows.proofs.Table.{Laid}
 use Rattle.filter_rows.proofs.rows.all_rows.Given as goal
-use lib.ListN.{length, set, length-set}
-use mathlib.Core.Path.{◌≡◌, refl, sym, ◌∙◌}
-use native.Mathlib.Nat.{le_antisymm}
-use native.Mathlib.Omega.{arith}
+use lib.ListN.{length}
+use mathlib.Core.Path.{◌≡◌}
 
 abbrev pub invariant-loop-e : goal.invariant-loop-e
 invariant-loop-e l = (l.e ≤ l.n) × Clean (length l.centroids) l.e l.stamp l.weight l.bits × (length l.bits ≡ length l.initial.bits) × (length l.found ≡ length l.initial.found)
