@@ -1,9 +1,8 @@
 -- `zero::longs` meets its contract. The invariant: the places passed are zero. Assumes nothing.
-use Prim.Native.Nat.{ℕ, ◌-◌, ◌≤◌}
+use Prim.Native.Nat.{ℕ}
 use Rattle.lists.proofs.Laws.{overwrite-none, overwrite-more, overwrite_throughout}
 use Rattle.lists.specs.Lists.{overwrite}
 use Rattle.zero.proofs.longs.Goals as goal
-use borrow.Author.Rules.{rules}
 use lib.ListN.{length, length-set}
 use mathlib.Core.Path.{◌≡◌, refl, sym, ap, ◌∙◌}
 use native.Mathlib.Nat.{le_antisymm}

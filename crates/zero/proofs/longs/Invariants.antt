@@ -1,13 +1,9 @@
 -- `zero::longs` meets its contract. The invariant: the places passed are zero. Assumes nothing.
-use Prim.Native.Nat.{ℕ, ◌-◌, ◌≤◌}
-use Rattle.lists.proofs.Laws.{overwrite-none, overwrite-more, overwrite_throughout}
+use Prim.Native.Nat.{◌-◌, ◌≤◌}
 use Rattle.lists.specs.Lists.{overwrite}
 use Rattle.zero.proofs.longs.Given as goal
-use borrow.Author.Rules.{rules}
-use lib.ListN.{length, length-set}
-use mathlib.Core.Path.{◌≡◌, refl, sym, ap, ◌∙◌}
-use native.Mathlib.Nat.{le_antisymm}
-use native.Mathlib.Omega.{arith}
+use lib.ListN.{length}
+use mathlib.Core.Path.{◌≡◌}
 
 abbrev pub invariant-loop-i : goal.invariant-loop-i
 invariant-loop-i it = (it.i ≤ length it.initial.l) × (length it.l ≡ length it.initial.l) × (it.l ≡ overwrite (λ _. 0) it.i it.initial.l)

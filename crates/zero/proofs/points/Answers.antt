@@ -1,9 +1,8 @@
 -- `zero::points` meets its contract. The invariant: the places passed are zero. Assumes nothing.
-use Prim.Native.Nat.{ℕ, ◌-◌, ◌≤◌}
+use Prim.Native.Nat.{ℕ}
 use Rattle.lists.proofs.Laws.{overwrite-none, overwrite-more, overwrite_throughout}
 use Rattle.lists.specs.Lists.{overwrite, zero64}
 use Rattle.zero.proofs.points.Goals as goal
-use borrow.Author.Rules.{rules}
 use lib.ListN.{length, length-set}
 use mathlib.Core.List.{[], ◌∷◌}
 use mathlib.Core.Path.{◌≡◌, refl, sym, ap, ◌∙◌}
