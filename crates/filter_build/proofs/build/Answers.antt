@@ -4,7 +4,6 @@ use Rattle.filter_build.proofs.Laws.{roomy, filled, refuses, wipes, builds}
 use Rattle.filter_build.proofs.build.Goals as goal
 use Rattle.lists.proofs.Bools.{at-most-zero}
 use Rattle.lists.specs.Lists.{zero64}
-use borrow.Author.Rules.{rules}
 use lib.ListN.{length, replicate}
 use mathlib.Core.List.{[], ◌∷◌}
 use mathlib.Core.Path.{sym, ap, ◌∙◌}
