@@ -29,12 +29,12 @@ module _ {A : Type 0} (p : ℕ → Bool) (g : ℕ → A → A) where
   pub length-changed : (l : List A) → length (changed p g l) ≡ length l
   length-changed l = length_from 0 l
 
-  pub get_d-changed : (l : List A) (j : ℕ) (d : A) → j < length l → get_or (changed p g l) j d ≡ cond (p j) (g j (get_or l j d)) (get_or l j d)
-  get_d-changed l j d h = at_from 0 l j d h ∙ ap (λ (i : ℕ). cond (p i) (g i (get_or l j d)) (get_or l j d)) (omega arith)
+  pub get_or-changed : (l : List A) (j : ℕ) (d : A) → j < length l → get_or (changed p g l) j d ≡ cond (p j) (g j (get_or l j d)) (get_or l j d)
+  get_or-changed l j d h = at_from 0 l j d h ∙ ap (λ (i : ℕ). cond (p i) (g i (get_or l j d)) (get_or l j d)) (omega arith)
 
   -- a list that agrees with it place by place is it: the order in which the places were written says nothing
   pub is-changed : (l w : List A) (d : A) → length w ≡ length l → ((j : ℕ) → j < length l → get_or w j d ≡ cond (p j) (g j (get_or l j d)) (get_or l j d)) → w ≡ changed p g l
-  is-changed l w d len at = ext_get_or d w (changed p g l) (len ∙ sym (length-changed l)) (λ j h. at j (omega arith) ∙ sym (get_d-changed l j d (omega arith)))
+  is-changed l w d len at = ext_get_or d w (changed p g l) (len ∙ sym (length-changed l)) (λ j h. at j (omega arith) ∙ sym (get_or-changed l j d (omega arith)))
 
 module _ {A : Type 0} (g : ℕ → A → A) (d : A) where
   -- p's places after q's are r's
@@ -42,8 +42,8 @@ module _ {A : Type 0} (g : ℕ → A → A) (d : A) where
   change-more p q r l h =
       is-changed r g l (changed p g (changed q g l)) d (length-changed p g (changed q g l) ∙ length-changed q g l)
       (λ j lt.
-      get_d-changed p g (changed q g l) j d (omega (arith, length-changed q g l))
-      ∙ rw (get_d-changed q g l j d lt)
+      get_or-changed p g (changed q g l) j d (omega (arith, length-changed q g l))
+      ∙ rw (get_or-changed q g l j d lt)
       (⊎_elim
       (λ (w : (p j ≡ true) × (q j ≡ false) × (r j ≡ true)). rw (w.0, w.1, w.2))
       (λ (w : (p j ≡ false) × (r j ≡ q j)). rw (w.0, w.1))
@@ -57,7 +57,7 @@ module _ {A : Type 0} (g : ℕ → A → A) (d : A) where
   changed-none p l h = is-changed p g l l d refl (λ j lt. rw (h j))
 
   pub changed-same : (p q : ℕ → Bool) (l : List A) → ((j : ℕ) → j < length l → p j ≡ q j) → changed p g l ≡ changed q g l
-  changed-same p q l h = is-changed q g l (changed p g l) d (length-changed p g l) (λ j lt. get_d-changed p g l j d lt ∙ rw (h j lt))
+  changed-same p q l h = is-changed q g l (changed p g l) d (length-changed p g l) (λ j lt. get_or-changed p g l j d lt ∙ rw (h j lt))
 
 pub and-false : (t : Bool) → (t && false) ≡ false
 and-false true = refl

@@ -10,7 +10,7 @@ use Rattle.ieee_whole.proofs.Floor.{floor-fits}
 use Rattle.geom.specs.declared.Vec3.{Vec3}
 use Rattle.lists.specs.Lists.{overwrite}
 use Rattle.lists.proofs.Bools.{le-or-lt}
-use Rattle.lists.proofs.Laws.{length-overwrite, get_d-overwrite-below}
+use Rattle.lists.proofs.Laws.{length-overwrite, get_or-overwrite-below}
 use Rattle.cells.specs.Cells.{cell_at, cell_of, axis}
 
 pub cell-fits : (v from size : Float) → cell_at v from size < 2 ^ 64
@@ -35,7 +35,7 @@ cells_fit points from size n l cells all e i k =
       arith,
       of-fits (get_or points i []) from size k,
       ap (λ (c : List (List ℕ)). axis c i k) e,
-      ap (λ (c : List ℕ). get_or c k 0) (get_d-overwrite-below (λ j. cell_of (get_or points j []) from size) n l i [] (omega (arith, len)) (omega (arith, len))),
+      ap (λ (c : List ℕ). get_or c k 0) (get_or-overwrite-below (λ j. cell_of (get_or points j []) from size) n l i [] (omega (arith, len)) (omega (arith, len))),
     ))
     (le-or-lt (length cells) i)
   where

@@ -13,7 +13,7 @@ use lib.Dec.{eqb}
 use lib.Ieee.{Float}
 use borrow.Author.Tests.{ne_eqb}
 use Rattle.lists.specs.Lists.{tabulate, choose, overlay}
-use Rattle.lists.proofs.Laws.{length-tabulate, get_d_tabulate, choose-false}
+use Rattle.lists.proofs.Laws.{length-tabulate, get_or-tabulate, choose-false}
 use Rattle.filter_table.specs.Table.{Wf, well_of}
 use Rattle.filter_table.proofs.Laws.{wf-well}
 use Rattle.lists.proofs.Bools.{le-or-lt}
@@ -29,9 +29,9 @@ pub length-laid : {A : Type 0} (new l : List A) → length new ≤ length (overl
 unfolding overlay
 length-laid new l = let e = length-append new (drop (length new) l) in omega arith
 
-pub get_d-laid : {A : Type 0} (new l : List A) (k : ℕ) (d : A) → k < length new → get_or (overlay new l) k d ≡ get_or new k d
+pub get_or-laid : {A : Type 0} (new l : List A) (k : ℕ) (d : A) → k < length new → get_or (overlay new l) k d ≡ get_or new k d
 unfolding overlay
-get_d-laid new l k d h = get_or-append new (drop (length new) l) d k h
+get_or-laid new l k d h = get_or-append new (drop (length new) l) d k h
 
 module _ {A : Type 0} (f : ℕ → List A) where
   length-joined : (n : ℕ) → length (joined f (suc n)) ≡ length (joined f n) + length (f n)
@@ -46,13 +46,13 @@ module _ {A : Type 0} (f : ℕ → List A) where
       (λ (lt : e < n). let s = length-joined n in let b = joined_mono e n lt in omega arith)
       (eq-or-lt_of_le (omega arith))
 
-  pub get_d-joined : (n e k : ℕ) (d : A) → e < n → k < length (f e) → get_or (joined f n) (length (joined f e) + k) d ≡ get_or (f e) k d
+  pub get_or-joined : (n e k : ℕ) (d : A) → e < n → k < length (f e) → get_or (joined f n) (length (joined f e) + k) d ≡ get_or (f e) k d
   unfolding joined
-  get_d-joined zero e k d h lt = absurd (not-suc-le-zero h)
-  get_d-joined (suc n) e k d h lt =
+  get_or-joined zero e k d h lt = absurd (not-suc-le-zero h)
+  get_or-joined (suc n) e k d h lt =
       ⊎_elim
       (λ (q : e ≡ n). rw q (get_or-append-add (joined f n) (f n) k d))
-      (λ (b : e < n). get_or-append (joined f n) (f n) d (length (joined f e) + k) (let m = joined_mono e n b in omega arith) ∙ get_d-joined n e k d b lt)
+      (λ (b : e < n). get_or-append (joined f n) (f n) d (length (joined f e) + k) (let m = joined_mono e n b in omega arith) ∙ get_or-joined n e k d b lt)
       (eq-or-lt_of_le (omega arith))
 
 -- ---- the rows by the definitions
@@ -77,7 +77,7 @@ module _ (centroids : List (List Float)) (radius : Float) (planes : List (List F
   -- place k of row e stands at start e + k
   pub neighbour-at : (n e k : ℕ) → e < n → k < length (row e) → get_or (neighbours centroids radius planes n) (start centroids radius planes e + k) 0 ≡ get_or (row e) k 0
   unfolding start neighbours
-  neighbour-at n e k h lt = get_d-joined row n e k 0 h lt
+  neighbour-at n e k h lt = get_or-joined row n e k 0 h lt
 
   neighbours-below : (n k : ℕ) → k < start centroids radius planes n → get_or (neighbours centroids radius planes n) k 0 < length centroids
   unfolding start neighbours joined
@@ -125,12 +125,12 @@ module _ (centroids : List (List Float)) (volumes : List Float) (radius : Float)
   pub start-at : (e : ℕ) → e ≤ n → get_or l'.starts e 0 ≡ begins e
   start-at e h =
       ap (λ (s : List ℕ). get_or s e 0) starts-are
-      ∙ get_d-laid (tabulate begins (n + 1)) l.starts e 0 (let t = length-tabulate begins (n + 1) in omega arith)
-      ∙ get_d_tabulate begins (n + 1) e 0 (omega arith)
+      ∙ get_or-laid (tabulate begins (n + 1)) l.starts e 0 (let t = length-tabulate begins (n + 1) in omega arith)
+      ∙ get_or-tabulate begins (n + 1) e 0 (omega arith)
 
   pub near-at : (k : ℕ) → k < begins n → get_or l'.near k 0 ≡ get_or (neighbours centroids radius planes n) k 0
   unfolding start
-  near-at k h = ap (λ (s : List ℕ). get_or s k 0) near-are ∙ get_d-laid (neighbours centroids radius planes n) l.near k 0 h
+  near-at k h = ap (λ (s : List ℕ). get_or s k 0) near-are ∙ get_or-laid (neighbours centroids radius planes n) l.near k 0 h
 
   -- what is left is well formed: the products with it need no test
   pub well_formed : Wf l'.starts l'.near l'.coef n n

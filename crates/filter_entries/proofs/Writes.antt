@@ -61,5 +61,5 @@ cleared-there found (suc k) l j d h b =
     (eq-or_ne (get_or found j 0) (get_or found k 0))
 
 -- a list of one value
-pub get_d-zeros : {A : Type 0} (z d : A) (n : ℕ) (l : List A) (i : ℕ) → l ≡ replicate n z → i < n → get_or l i d ≡ z
-get_d-zeros {A} z d n l i e lt = ap (λ (r : List A). get_or r i d) e ∙ get_or-replicate n i z d lt
+pub get_or-zeros : {A : Type 0} (z d : A) (n : ℕ) (l : List A) (i : ℕ) → l ≡ replicate n z → i < n → get_or l i d ≡ z
+get_or-zeros {A} z d n l i e lt = ap (λ (r : List A). get_or r i d) e ∙ get_or-replicate n i z d lt

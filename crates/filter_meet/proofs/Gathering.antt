@@ -12,7 +12,7 @@ use Rattle.lists.specs.Lists.{any_to, choose, zero64}
 use Rattle.lists.proofs.Bools.{or-true, or-false}
 use Rattle.lists.proofs.Laws.{fold_to-more, any_step}
 use Rattle.geom.specs.declared.Vec3.{Vec3}
-use Rattle.cells.proofs.Changed.{get_d-changed}
+use Rattle.cells.proofs.Changed.{get_or-changed}
 use Rattle.filter.specs.Filter.{counts, share, seen}
 use Rattle.filter_look.specs.Steps.{gained, Took, Gathered}
 
@@ -38,10 +38,10 @@ module _ (centroids : List (List Float)) (radius : Float) (planes : List (List F
   gather-more k count q stamp weight stamp' weight' eq ss ws s t =
       let p : ℕ → Bool = counts centroids radius q in
       let put : (i : ℕ) → i < length centroids → get_or stamp' i 0 ≡ cond (p i) mark (get_or stamp i 0) =
-      λ i lt. ap (λ (l : List ℕ). get_or l i 0) t.stamps ∙ get_d-changed p (λ _ _. mark) stamp i 0 (omega arith) in
+      λ i lt. ap (λ (l : List ℕ). get_or l i 0) t.stamps ∙ get_or-changed p (λ _ _. mark) stamp i 0 (omega arith) in
       record {
         weights = λ i lt.
-            ap (λ (l : List Float). get_or l i nan) t.weights ∙ get_d-changed p (gained centroids radius q) weight i nan (omega arith) ∙ cond-choose (p i) _ _
+            ap (λ (l : List Float). get_or l i nan) t.weights ∙ get_or-changed p (gained centroids radius q) weight i nan (omega arith) ∙ cond-choose (p i) _ _
             ∙ ap (λ (v : Vec3). choose (counts centroids radius v i) (add binary64 (get_or weight i nan) (share centroids radius v i)) (get_or weight i nan)) eq
             ∙ ap (λ (w : Float). choose (counts centroids radius (seen centroids radius planes e k) i) (add binary64 w (share centroids radius (seen centroids radius planes e k) i)) w) (s.weights i lt)
             ∙ fold_to-more (λ h w. choose (counts centroids radius (seen centroids radius planes e h) i) (add binary64 w (share centroids radius (seen centroids radius planes e h) i)) w) zero64 k;

@@ -7,7 +7,7 @@ use native.Mathlib.Nat.{le_refl}
 use lib.ListN.{length, get_or}
 use lib.Ieee.{Float}
 use Rattle.lists.specs.Lists.{overwrite}
-use Rattle.lists.proofs.Laws.{length-overwrite, get_d-overwrite-below}
+use Rattle.lists.proofs.Laws.{length-overwrite, get_or-overwrite-below}
 use Rattle.geom.specs.declared.Vec3.{Vec3}
 use Rattle.cells.specs.Cells.{cell_of}
 use Rattle.cells.specs.Filing.{Filed}
@@ -27,10 +27,10 @@ prepared centroids lo radius cell₀ cell order first sorted₀ sorted m cn sn c
     record {
       filed = f;
       many = many;
-      cubes = λ i lt. ap (λ (l : List (List ℕ)). get_or l i []) whole ∙ get_d-overwrite-below at (length cell₀) cell₀ i [] (omega arith) (omega arith);
+      cubes = λ i lt. ap (λ (l : List (List ℕ)). get_or l i []) whole ∙ get_or-overwrite-below at (length cell₀) cell₀ i [] (omega arith) (omega arith);
       fit = cells_fit centroids lo radius (length cell₀) cell₀ cell (le_refl (length cell₀)) whole;
       sorteds = ap length se ∙ length-overwrite _ (length centroids) sorted₀ ∙ sn ∙ sym many;
-      arranged = λ k lt. ap (λ (l : List (List Float)). get_or l k []) se ∙ get_d-overwrite-below (λ k. get_or centroids (get_or order k 0) []) (length centroids) sorted₀ k [] (omega arith) (omega arith);
+      arranged = λ k lt. ap (λ (l : List (List Float)). get_or l k []) se ∙ get_or-overwrite-below (λ k. get_or centroids (get_or order k 0) []) (length centroids) sorted₀ k [] (omega arith) (omega arith);
     }
 
 pub ready : (centroids : List (List Float)) (lo hi : Vec3) (radius limit : Float) (cell : List (List ℕ)) (order first : List ℕ) (sorted : List (List Float)) (m : ℕ)

@@ -16,7 +16,7 @@ use Rattle.filter_look.specs.Steps.{stamped, marked, Lists, Gathered}
 use Rattle.filter_entries.specs.Entries.{product_at, written, cleared}
 use Rattle.filter_row.specs.Row.{Settled, Clean, Rowed}
 use Rattle.filter_look.proofs.Chosen.{chosen-same, found_at, found-rising, found-has}
-use Rattle.filter_entries.proofs.Writes.{length-cleared, cleared_else, cleared-there, get_d-zeros}
+use Rattle.filter_entries.proofs.Writes.{length-cleared, cleared_else, cleared-there, get_or-zeros}
 
 -- ---- before a row
 
@@ -154,6 +154,6 @@ clean n stamp weight bits stamp₀ weight₀ few sn wn maps se we =
       stamps = ap length se ∙ length-replicate (length stamp₀) 0 ∙ sn;
       weights = ap length we ∙ length-replicate (length weight₀) zero64 ∙ wn;
       maps = maps;
-      zero = λ i lt. get_d-zeros zero64 nan (length weight₀) weight i we (omega arith);
-      most = λ i lt. omega (arith, get_d-zeros 0 0 (length stamp₀) stamp i se (omega arith));
+      zero = λ i lt. get_or-zeros zero64 nan (length weight₀) weight i we (omega arith);
+      most = λ i lt. omega (arith, get_or-zeros 0 0 (length stamp₀) stamp i se (omega arith));
     }

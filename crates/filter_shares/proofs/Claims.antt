@@ -10,13 +10,13 @@ use lib.ListN.{length, get_or}
 use lib.Ieee.{Float, nan}
 use borrow.Author.Tests.{ne_eqb}
 use Rattle.lists.specs.Lists.{tabulate, choose}
-use Rattle.lists.proofs.Laws.{get_d_tabulate, choose-false}
+use Rattle.lists.proofs.Laws.{get_or-tabulate, choose-false}
 use Rattle.filter.specs.Filter.{neighbours, start, coefficients}
 use Rattle.filter.specs.Build.{Lent, lengths_of, rows_refusal, early, outcome, Built}
 use Rattle.lent.specs.Lent.{kept, zeroed, done, number_of}
 use Rattle.filter_rows.proofs.Table.{length-coefficients}
 use Rattle.filter_build.proofs.Laws.{roomy}
-use Rattle.filter_build.proofs.Formed.{length-laid, get_d-laid, near-are, coef-are, start-at, near-at}
+use Rattle.filter_build.proofs.Formed.{length-laid, get_or-laid, near-are, coef-are, start-at, near-at}
 use Rattle.filter_shares.specs.Weights.{meetings, entries, RowsNearOne, DefinedNearOne, BuiltNearOne}
 use Rattle.filter_shares.specs.Nudge.{DefinedMove, BuiltMove}
 use Rattle.filter_shares.proofs.Meetings.{few-entries}
@@ -46,7 +46,7 @@ module _ (centroids : List (List Float)) (radius : Float) (planes : List (List F
   unfolding start
   defined-table =
       record {
-        begins = λ e h. get_d_tabulate (start centroids radius planes) (length centroids + 1) e 0 (omega arith);
+        begins = λ e h. get_or-tabulate (start centroids radius planes) (length centroids + 1) e 0 (omega arith);
         room = le_refl (start centroids radius planes (length centroids));
         room-coef = le_of_eq (sym (length-coefficients centroids radius planes volumes (length centroids)));
         column = λ k h. refl;
@@ -75,7 +75,7 @@ module _ (centroids : List (List Float)) (radius : Float) (planes : List (List F
           room = let m = length-laid near l.near in let e = ap length (near-are centroids volumes radius planes l l' b) in omega arith;
           room-coef = let m = length-laid coef l.coef in let e = ap length (coef-are centroids volumes radius planes l l' b) in omega arith;
           column = near-at centroids volumes radius planes l l' b;
-          number = λ k h. ap (λ (s : List Float). get_or s k nan) (coef-are centroids volumes radius planes l l' b) ∙ get_d-laid coef l.coef k nan (omega arith);
+          number = λ k h. ap (λ (s : List Float). get_or s k nan) (coef-are centroids volumes radius planes l l' b) ∙ get_or-laid coef l.coef k nan (omega arith);
         }
 
     few : length centroids ≤ 65535

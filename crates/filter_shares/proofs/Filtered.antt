@@ -8,7 +8,7 @@ use native.Mathlib.Omega.{arith}
 use lib.ListN.{length, get_or, length-append, get_or-append}
 use lib.Seq.{get_or-append_seam}
 use lib.Ieee.{Float, nan, binary64, mul}
-use Rattle.lists.proofs.Laws.{get_d_tabulate, sum_to-same}
+use Rattle.lists.proofs.Laws.{get_or-tabulate, sum_to-same}
 use Rattle.lists.specs.Lists.{fold_over, sum_to, sum_over, choose, zero64}
 use Rattle.ieee_exact.specs.Exact.{total}
 use Rattle.filter.specs.Filter.{chosen, met, columns, start}
@@ -82,7 +82,7 @@ module _ (centroids : List (List Float)) (radius : Float) (planes : List (List F
       let r = t.room in
       let c = t.room-coef in
       let len : b - a ≡ entries centroids radius planes e = omega arith in
-      get_d_tabulate _ (length centroids) e nan h
+      get_or-tabulate _ (length centroids) e nan h
       ∙ (λ i. row_sum near coef x (t.begins e (omega arith) i) (t.begins (e + 1) (omega arith) i))
       ∙ ap (sum_over (times near coef x) a) (row_end-within near coef a b (omega arith) (omega arith) (omega arith))
       ∙ sum-from (times near coef x) a b

@@ -15,7 +15,7 @@ use lib.Ieee.Exact.{HasValue}
 use lib.Ieee.Fits.{div-fits}
 use lib.Ieee.Positive.{positive, above, between}
 use Rattle.lists.specs.Lists.{choose, zero64}
-use Rattle.lists.proofs.Laws.{get_d_any, sum_to-same}
+use Rattle.lists.proofs.Laws.{get_or_any, sum_to-same}
 use Rattle.ieee.specs.Basic.{one64, is_finite, clamp_of}
 use Rattle.ieee_root.specs.Sqrt.{Held}
 use Rattle.ieee_exact.specs.Exact.{amount, total, apart}
@@ -131,7 +131,7 @@ module _ (centroids : List (List Float)) (radius : Float) (planes : List (List F
     held k l = held-from binary64 least64 (2 ^ (prec binary64 - 1)) least-is.above least-is.value (w k) (div-fits binary64 _ _) (p.weights k l).finite (p.weights k l).least
 
     old_in : (k : ℕ) → k < m → InRange (get_or x (col k) zero64)
-    old_in = columns-all centroids radius planes e (λ j. InRange (get_or x j zero64)) (λ j l hit. subst InRange (get_d_any x j nan zero64 (lt_of_lt_of_le l nudge.long)) (nudge.old j l))
+    old_in = columns-all centroids radius planes e (λ j. InRange (get_or x j zero64)) (λ j l hit. subst InRange (get_or_any x j nan zero64 (lt_of_lt_of_le l nudge.long)) (nudge.old j l))
 
     new_in : (k : ℕ) → k < m → InRange (get_or (set x i v) (col k) zero64)
     new_in =
@@ -140,7 +140,7 @@ module _ (centroids : List (List Float)) (radius : Float) (planes : List (List F
       where
         go : (j : ℕ) → j < N → Dec (j ≡ i) → InRange (get_or (set x i v) j zero64)
         go j l (yes q) = subst InRange (sym (ap (λ (z : ℕ). get_or (set x i v) z zero64) q ∙ get_or-set_same x i v zero64 (lt_of_lt_of_le nudge.place nudge.long))) nudge.new
-        go j l (no q) = subst InRange (get_d_any x j nan zero64 (lt_of_lt_of_le l nudge.long) ∙ sym (get_or-set_other x i j v zero64 q)) (nudge.old j l)
+        go j l (no q) = subst InRange (get_or_any x j nan zero64 (lt_of_lt_of_le l nudge.long) ∙ sym (get_or-set_other x i j v zero64 q)) (nudge.old j l)
 
     -- the exact sum of the row's products with y
     abbrev term : List Float → ℕ → ℕ
@@ -156,7 +156,7 @@ module _ (centroids : List (List Float)) (radius : Float) (planes : List (List F
     W = amount binary64 (weight_for centroids radius planes volumes e i) * apart (amount binary64 (get_or x i nan)) (amount binary64 v)
 
     old-at : get_or x i zero64 ≡ get_or x i nan
-    old-at = get_d_any x i zero64 nan (lt_of_lt_of_le nudge.place nudge.long)
+    old-at = get_or_any x i zero64 nan (lt_of_lt_of_le nudge.place nudge.long)
 
     new-at : get_or (set x i v) i zero64 ≡ v
     new-at = get_or-set_same x i v zero64 (lt_of_lt_of_le nudge.place nudge.long)

@@ -6,11 +6,11 @@ use native.Mathlib.Nat.{le_refl}
 use native.Mathlib.Omega.{arith}
 use lib.ListN.{length, get_or, length-map, get_or-map}
 use lib.Ieee.{Float, nan, binary64}
-use Rattle.lists.proofs.Laws.{get_d_any}
+use Rattle.lists.proofs.Laws.{get_or_any}
 use Rattle.ieee_exact.specs.Exact.{amount, total}
 use Rattle.filter.specs.Filter.{joined, columns, neighbours, start, coefficient, coefficients}
 use Rattle.filter_rows.proofs.Table.{start-more, length-coefficients}
-use Rattle.filter_build.proofs.Formed.{get_d-joined, start_mono}
+use Rattle.filter_build.proofs.Formed.{get_or-joined, start_mono}
 use Rattle.filter_shares.specs.Weights.{entries, weight_at, weight_sum}
 
 pub total-same : (F G : ℕ → ℕ) (n : ℕ) → ((k : ℕ) → k < n → F k ≡ G k) → total F n ≡ total G n
@@ -34,8 +34,8 @@ module _ (centroids : List (List Float)) (radius : Float) (planes : List (List F
     coefficient-at n e k h lt =
         let m = length-map (columns centroids radius planes e) (coefficient centroids radius planes volumes e) in
         ap (λ (z : ℕ). get_or (joined row n) (z + k) nan) (sym (length-coefficients centroids radius planes volumes e))
-        ∙ get_d-joined row n e k nan h (omega arith)
-        ∙ get_d_any (row e) k nan (coefficient centroids radius planes volumes e 0) (omega arith)
+        ∙ get_or-joined row n e k nan h (omega arith)
+        ∙ get_or_any (row e) k nan (coefficient centroids radius planes volumes e 0) (omega arith)
         ∙ get_or-map (coefficient centroids radius planes volumes e) (columns centroids radius planes e) k 0
 
     -- the three lists begin with the filter's table

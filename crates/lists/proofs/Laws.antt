@@ -14,10 +14,10 @@ use Rattle.lists.specs.Lists.{tabulate, overwrite, sum_to, fold_to, zero64, fold
 
 -- ---- reading
 -- what is read within a list does not depend on what is read past its end
-pub get_d_any : {A : Type 0} (l : List A) (k : ℕ) (d d' : A) → k < length l → get_or l k d ≡ get_or l k d'
-get_d_any [] k d d' h = absurd (not-suc-le-zero h)
-get_d_any (x ∷ l) zero d d' h = refl
-get_d_any (x ∷ l) (suc k) d d' h = get_d_any l k d d' (le_of_suc-le-suc h)
+pub get_or_any : {A : Type 0} (l : List A) (k : ℕ) (d d' : A) → k < length l → get_or l k d ≡ get_or l k d'
+get_or_any [] k d d' h = absurd (not-suc-le-zero h)
+get_or_any (x ∷ l) zero d d' h = refl
+get_or_any (x ∷ l) (suc k) d d' h = get_or_any l k d d' (le_of_suc-le-suc h)
 
 -- ---- tabulate
 pub length-tabulate : {A : Type 0} (f : ℕ → A) (n : ℕ) → length (tabulate f n) ≡ n
@@ -25,11 +25,11 @@ unfolding tabulate
 length-tabulate f zero = refl
 length-tabulate f (suc n) = ap suc (length-tabulate (λ k. f (suc k)) n)
 
-pub get_d_tabulate : {A : Type 0} (f : ℕ → A) (n k : ℕ) (d : A) → k < n → get_or (tabulate f n) k d ≡ f k
+pub get_or-tabulate : {A : Type 0} (f : ℕ → A) (n k : ℕ) (d : A) → k < n → get_or (tabulate f n) k d ≡ f k
 unfolding tabulate
-get_d_tabulate f zero k d h = absurd (not-suc-le-zero h)
-get_d_tabulate f (suc n) zero d h = refl
-get_d_tabulate f (suc n) (suc k) d h = get_d_tabulate (λ j. f (suc j)) n k d (le_of_suc-le-suc h)
+get_or-tabulate f zero k d h = absurd (not-suc-le-zero h)
+get_or-tabulate f (suc n) zero d h = refl
+get_or-tabulate f (suc n) (suc k) d h = get_or-tabulate (λ j. f (suc j)) n k d (le_of_suc-le-suc h)
 
 -- two functions that agree below n
 pub tabulate-same : {A : Type 0} (f g : ℕ → A) (n : ℕ) → ((k : ℕ) → k < n → f k ≡ g k) → tabulate f n ≡ tabulate g n
@@ -51,26 +51,26 @@ length-overwrite f zero l = refl
 length-overwrite f (suc n) [] = refl
 length-overwrite f (suc n) (x ∷ l) = ap suc (length-overwrite (λ k. f (suc k)) n l)
 
-pub get_d-overwrite-below : {A : Type 0} (f : ℕ → A) (n : ℕ) (l : List A) (k : ℕ) (d : A) → k < n → k < length l → get_or (overwrite f n l) k d ≡ f k
+pub get_or-overwrite-below : {A : Type 0} (f : ℕ → A) (n : ℕ) (l : List A) (k : ℕ) (d : A) → k < n → k < length l → get_or (overwrite f n l) k d ≡ f k
 unfolding overwrite
-get_d-overwrite-below f zero l k d h b = absurd (not-suc-le-zero h)
-get_d-overwrite-below f (suc n) [] k d h b = absurd (not-suc-le-zero b)
-get_d-overwrite-below f (suc n) (x ∷ l) zero d h b = refl
-get_d-overwrite-below f (suc n) (x ∷ l) (suc k) d h b = get_d-overwrite-below (λ j. f (suc j)) n l k d (le_of_suc-le-suc h) (le_of_suc-le-suc b)
+get_or-overwrite-below f zero l k d h b = absurd (not-suc-le-zero h)
+get_or-overwrite-below f (suc n) [] k d h b = absurd (not-suc-le-zero b)
+get_or-overwrite-below f (suc n) (x ∷ l) zero d h b = refl
+get_or-overwrite-below f (suc n) (x ∷ l) (suc k) d h b = get_or-overwrite-below (λ j. f (suc j)) n l k d (le_of_suc-le-suc h) (le_of_suc-le-suc b)
 
-pub get_d-overwrite-above : {A : Type 0} (f : ℕ → A) (n : ℕ) (l : List A) (k : ℕ) (d : A) → n ≤ k → get_or (overwrite f n l) k d ≡ get_or l k d
+pub get_or-overwrite-above : {A : Type 0} (f : ℕ → A) (n : ℕ) (l : List A) (k : ℕ) (d : A) → n ≤ k → get_or (overwrite f n l) k d ≡ get_or l k d
 unfolding overwrite
-get_d-overwrite-above f zero l k d h = refl
-get_d-overwrite-above f (suc n) [] k d h = refl
-get_d-overwrite-above f (suc n) (x ∷ l) zero d h = absurd (not-suc-le-zero h)
-get_d-overwrite-above f (suc n) (x ∷ l) (suc k) d h = get_d-overwrite-above (λ j. f (suc j)) n l k d (le_of_suc-le-suc h)
+get_or-overwrite-above f zero l k d h = refl
+get_or-overwrite-above f (suc n) [] k d h = refl
+get_or-overwrite-above f (suc n) (x ∷ l) zero d h = absurd (not-suc-le-zero h)
+get_or-overwrite-above f (suc n) (x ∷ l) (suc k) d h = get_or-overwrite-above (λ j. f (suc j)) n l k d (le_of_suc-le-suc h)
 
 -- the place that a turn finds at its own index is as it was lent
-pub get_d-overwrite-here : {A : Type 0} (f : ℕ → A) (n : ℕ) (l : List A) (d : A) → get_or (overwrite f n l) n d ≡ get_or l n d
+pub get_or-overwrite-here : {A : Type 0} (f : ℕ → A) (n : ℕ) (l : List A) (d : A) → get_or (overwrite f n l) n d ≡ get_or l n d
 unfolding overwrite
-get_d-overwrite-here f zero l d = refl
-get_d-overwrite-here f (suc n) [] d = refl
-get_d-overwrite-here f (suc n) (x ∷ l) d = get_d-overwrite-here (λ j. f (suc j)) n l d
+get_or-overwrite-here f zero l d = refl
+get_or-overwrite-here f (suc n) [] d = refl
+get_or-overwrite-here f (suc n) (x ∷ l) d = get_or-overwrite-here (λ j. f (suc j)) n l d
 
 overwrite-suc : {A : Type 0} (f : ℕ → A) (n : ℕ) (l : List A) → n < length l → set (overwrite f n l) n (f n) ≡ overwrite f (suc n) l
 unfolding overwrite

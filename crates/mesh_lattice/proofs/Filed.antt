@@ -10,7 +10,7 @@ use lib.Seq.{get_or-set_same, get_or-set_other, get_or-append_seam}
 use lib.Dec.{eqb, ltb}
 use lib.Ieee.{Float}
 use Rattle.lists.specs.Lists.{choose, overwrite}
-use Rattle.lists.proofs.Laws.{choose-true, choose-false, overwrite-same, get_d-overwrite-below, overwrite-set}
+use Rattle.lists.proofs.Laws.{choose-true, choose-false, overwrite-same, get_or-overwrite-below, overwrite-set}
 use Rattle.geom.specs.Vectors.{plus, scaled}
 use Rattle.lent.specs.Points.{stored, point}
 use Rattle.mesh_lattice.specs.declared.Grid.{Grid}
@@ -132,7 +132,7 @@ pub record Filed (g : Grid) (nodes : List (List Float)) (edges : List ℕ) (l : 
 module _ (g : Grid) (nodes : List (List Float)) (edges : List ℕ) (some : 0 < corners_in g) (fit : corners_in g ≤ length nodes) (room : slots_in g ≤ length edges) where
   stored-corner : (l : List Edge) (s : Filing) → Filed g nodes edges l s → (k : ℕ) → k < corners_in g → point (get_or s.nodes k []) ≡ corner_place g k
   stored-corner l s f k h =
-      ap point (ap (λ (t : List (List Float)). get_or t k []) f.nodes-are ∙ get_d-overwrite-below (node_with g l) (corners_in g + length l) nodes k [] (omega arith) (omega arith) ∙ node-corner g l k h)
+      ap point (ap (λ (t : List (List Float)). get_or t k []) f.nodes-are ∙ get_or-overwrite-below (node_with g l) (corners_in g + length l) nodes k [] (omega arith) (omega arith) ∙ node-corner g l k h)
 
   grows : (l : List Edge) (s : Filing) (x : Edge) → Filed g nodes edges l s → Valid g x → met_before x l ≡ false → Filed g nodes edges (l ++ x ∷ []) (grown g s x)
   grows l s x f v e =

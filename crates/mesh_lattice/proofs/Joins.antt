@@ -6,7 +6,7 @@ use native.Mathlib.Omega.{arith}
 use lib.ListN.{length, get_or, set}
 use lib.Ieee.{Float}
 use Rattle.lists.specs.Lists.{overwrite, fold_to}
-use Rattle.lists.proofs.Laws.{overwrite-none, overwrite-more, fold_to-more, get_d-overwrite-below, length-overwrite}
+use Rattle.lists.proofs.Laws.{overwrite-none, overwrite-more, fold_to-more, get_or-overwrite-below, length-overwrite}
 use Rattle.mesh_lattice.specs.declared.Grid.{Grid}
 use Rattle.mesh_lattice.specs.Lattice.{number_of, corners_in, tets_in, slots_in, four_of, Edge, edge, sides_of, place_in, meet_all, edges_to, edges_in, middle_of, node_with, tet_of}
 use Rattle.mesh_lattice.specs.Filing.{Ready, Filing, looked_all, Joinable, Joined, Roomy, Builds, slot_of}
@@ -50,7 +50,7 @@ module _ (g : Grid) (nodes₀ : List (List Float)) (tets₀ : List (List ℕ)) (
               next-is = omega arith;
               nodes-are = pre.stored-are ∙ ap (λ (n : ℕ). overwrite (node_with g []) n nodes₀) (omega arith);
               table = λ x v. ap (λ (l : List ℕ). get_or l (slot_of g x) 0) pre.empty
-                  ∙ get_d-overwrite-below (λ k. 0) (slots_in g) edges₀ (slot_of g x) 0 (slot_lt g x v) (omega (arith, slot_lt g x v, pre.room))
+                  ∙ get_or-overwrite-below (λ k. 0) (slots_in g) edges₀ (slot_of g x) 0 (slot_lt g x v) (omega (arith, slot_lt g x v, pre.room))
                   ∙ sym (value_not g [] x refl);
               long = refl;
               rest = refl;

@@ -24,9 +24,9 @@ use Rattle.update_rates.proofs.Cases.{nan-slope}
 use Rattle.proved_cases.specs.Cases.{ProvedCases, OwnRows, two_free}
 use Rattle.proved_cases.proofs.Example.{worked-example}
 
-no_room : Opening.entry_of (two_free (of_bits binary64 0x3f50_624d_d2f1_a9fc)) ≡ Kept 7
+no_room_lem : Opening.entry_of (two_free (of_bits binary64 0x3f50_624d_d2f1_a9fc)) ≡ Kept 7
 unfolding Opening.entry_of Opening.first_refusal Lists.choose Lists.any_to Ieee.lt of_bits Ieee.le Ieee.mul Formulas.sum_of Lists.sum_to Ieee.add Start.solid_volume Ieee.sub
-no_room = refl
+no_room_lem = refl
 
 own-rows : OwnRows (two_free half)
 unfolding Opening.starts_of Opening.near_of Opening.coef_of Lists.tabulate Filter.start Filter.neighbours Filter.coefficients Ieee.lt Group.image_in of_bits Ieee.sub Vectors.least Basic.min_of Ieee.is_nan Vectors.greatest Basic.max_of Cells.nearby Whole.floor_at Ieee.div Vectors.len Sqrt.sqrt_of Vectors.len2 Vectors.dot Ieee.mul Vectors.less
@@ -37,7 +37,7 @@ proved_cases =
     record {
       worked = worked-example;
       nan_slope = nan-slope;
-      no_room = no_room;
+      no_room = no_room_lem;
       own_rows = own-rows;
       level_of_half = level_of-half;
       level_of_minus_three = level_of-minus-three;

@@ -10,7 +10,7 @@ use lib.Dec.{eqb, ltb}
 use borrow.Author.Tests.{eqb-true, eqb-false, ltb-true, ltb-false}
 use Rattle.lists.specs.Lists.{tabulate, fold_to, any_to, choose}
 use Rattle.lists.proofs.Bools.{or-true, or-false}
-use Rattle.lists.proofs.Laws.{length-tabulate, get_d_tabulate, tabulate-same}
+use Rattle.lists.proofs.Laws.{length-tabulate, get_or-tabulate, tabulate-same}
 
 -- the step sets the flags below n that q picks, and leaves the others
 abbrev pub Adds : ℕ → (List Bool → List Bool) → (ℕ → Bool) → Type 0
@@ -25,7 +25,7 @@ pub flag_at : (f : ℕ → Bool) (n i : ℕ) → get_or (tabulate f n) i false �
 flag_at f n i = go (ltb i n) refl
   where
     go : (t : Bool) → ltb i n ≡ t → get_or (tabulate f n) i false ≡ (t && f i)
-    go true e = get_d_tabulate f n i false (ltb-true i n e)
+    go true e = get_or-tabulate f n i false (ltb-true i n e)
     go false e = get_or-eq_default (tabulate f n) false (omega (arith, length-tabulate f n, ltb-false i n e))
 
 module _ (n : ℕ) where
@@ -33,13 +33,13 @@ module _ (n : ℕ) where
   pub set-adds : (h : ℕ) → Adds n (λ l. set l h true) (λ i. eqb h i)
   set-adds h f =
       ext_get_or false (set (tabulate f n) h true) (tabulate (λ i. f i || eqb h i) n) (length-set (tabulate f n) h true ∙ length-tabulate f n ∙ sym (length-tabulate (λ i. f i || eqb h i) n))
-      (λ i lt. go i (omega (arith, length-set (tabulate f n) h true, length-tabulate f n)) (eqb h i) refl ∙ sym (get_d_tabulate (λ j. f j || eqb h j) n i false (omega (arith, length-set (tabulate f n) h true, length-tabulate f n))))
+      (λ i lt. go i (omega (arith, length-set (tabulate f n) h true, length-tabulate f n)) (eqb h i) refl ∙ sym (get_or-tabulate (λ j. f j || eqb h j) n i false (omega (arith, length-set (tabulate f n) h true, length-tabulate f n))))
     where
       go : (i : ℕ) → i < n → (t : Bool) → eqb h i ≡ t → get_or (set (tabulate f n) h true) i false ≡ (f i || eqb h i)
       go i lt true e =
           rw (e, ← eqb-true h i e) (get_or-set_same (tabulate f n) h true false (omega (arith, eqb-true h i e, length-tabulate f n)) ∙ sym (or-true (f h)))
       go i lt false e =
-          rw e (get_or-set_other (tabulate f n) h i true false (λ q. eqb-false h i e (sym q)) ∙ get_d_tabulate f n i false lt ∙ sym (or-false (f i)))
+          rw e (get_or-set_other (tabulate f n) h i true false (λ q. eqb-false h i e (sym q)) ∙ get_or-tabulate f n i false lt ∙ sym (or-false (f i)))
 
   -- a step that is taken where t holds
   pub choose-adds : (t : Bool) (step : List Bool → List Bool) (q : ℕ → Bool) → Adds n step q → Adds n (λ l. choose t (step l) l) (λ i. t && q i)

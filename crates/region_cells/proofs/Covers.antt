@@ -10,7 +10,7 @@ use lib.Dec.{leb, ltb}
 use lib.Ieee.{Float, binary64, mul}
 use borrow.Author.Tests.{le-leb, lt-leb, lt-ltb, le-ltb}
 use Rattle.ieee_whole.proofs.Floor.{floor-fits}
-use Rattle.lists.proofs.Laws.{length-tabulate, get_d_tabulate}
+use Rattle.lists.proofs.Laws.{length-tabulate, get_or-tabulate}
 use Rattle.lent.specs.Points.{point}
 use Rattle.cells.specs.Cells.{axis, within, box_cell, in_box, changed}
 use Rattle.cells.proofs.Changed.{changed-none, changed-same, and-false}
@@ -59,7 +59,7 @@ module _ (t : Triangle) (size depth : Float) (centroids : List (List Float)) (ce
   square = mul binary64 depth depth
 
   cell_of_lem : (i : ℕ) → i < length centroids → get_or cells i [] ≡ cell_about size (point (get_or centroids i []))
-  cell_of_lem i lt = ap (λ (l : List (List ℕ)). get_or l i []) r.cells_are ∙ get_d_tabulate (λ j. cell_about size (point (get_or centroids j []))) (length centroids) i [] lt
+  cell_of_lem i lt = ap (λ (l : List (List ℕ)). get_or l i []) r.cells_are ∙ get_or-tabulate (λ j. cell_about size (point (get_or centroids j []))) (length centroids) i [] lt
 
   pub cells-many : length cells ≡ length centroids
   cells-many = ap length r.cells_are ∙ length-tabulate (λ j. cell_about size (point (get_or centroids j []))) (length centroids)

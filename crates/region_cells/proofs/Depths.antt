@@ -8,10 +8,10 @@ use lib.ListN.{get_or}
 use lib.Seq.{ext_get_or}
 use lib.Ieee.{Float}
 use Rattle.lists.specs.Lists.{tabulate, any_to, choose}
-use Rattle.lists.proofs.Laws.{length-tabulate, get_d_tabulate}
+use Rattle.lists.proofs.Laws.{length-tabulate, get_or-tabulate}
 use Rattle.lent.specs.Points.{point}
 use Rattle.cells.specs.Cells.{changed}
-use Rattle.cells.proofs.Changed.{length-changed, get_d-changed}
+use Rattle.cells.proofs.Changed.{length-changed, get_or-changed}
 use Rattle.region_by_nodes.proofs.Adds.{Adds, choose-adds, fold-adds}
 use Rattle.region_cells.specs.Depth.{corners_of, reaches}
 use Rattle.region_cells.specs.Steps.{reached, reached_by}
@@ -22,7 +22,7 @@ changed-adds n p f =
     ext_get_or false (changed p (λ _ _. true) (tabulate f n)) (tabulate (λ i. f i || p i) n) (length-changed p (λ _ _. true) (tabulate f n) ∙ length-tabulate f n ∙ sym (length-tabulate (λ i. f i || p i) n))
     (λ i lt.
     let below : i < n = omega (arith, length-changed p (λ _ _. true) (tabulate f n), length-tabulate f n) in
-    get_d-changed p (λ _ _. true) (tabulate f n) i false (omega (arith, length-tabulate f n)) ∙ rw (get_d_tabulate f n i false below) (either (f i) (p i)) ∙ sym (get_d_tabulate (λ j. f j || p j) n i false below))
+    get_or-changed p (λ _ _. true) (tabulate f n) i false (omega (arith, length-tabulate f n)) ∙ rw (get_or-tabulate f n i false below) (either (f i) (p i)) ∙ sym (get_or-tabulate (λ j. f j || p j) n i false below))
   where
     either : (a b : Bool) → cond b true a ≡ (a || b)
     either true true = refl

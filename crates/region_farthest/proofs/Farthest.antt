@@ -6,7 +6,7 @@ use Prim.Native.Nat.{ℕ}
 use lib.ListN.{length, get_or}
 use lib.Ieee.{Float}
 use Rattle.lists.specs.Lists.{tabulate, fold_to, any_to, choose, zero64}
-use Rattle.lists.proofs.Laws.{get_d_tabulate, fold_to-keeps, choose-false, fold_to-same}
+use Rattle.lists.proofs.Laws.{get_or-tabulate, fold_to-keeps, choose-false, fold_to-same}
 use Rattle.geom.specs.declared.Mirror.{Mirror}
 use Rattle.lent.specs.Points.{point}
 use Rattle.region_tree.specs.Tree.{Tree}
@@ -27,7 +27,7 @@ module _ (nodes : List (List Float)) (tris : List (List ℕ)) (m : Mirror) where
   far-is faces t seen ef et es =
       (λ i. fold_to (by-marks (ef i) (et i) (λ k. get_or (es i) k false)) zero64 (length nodes))
       ∙ fold_to-same _ (by-marks (faces_of nodes tris) (whole_tree (faces_of nodes tris)) (is_corner tris)) zero64 (length nodes)
-      (λ k b y. ap (λ (c : Bool). choose c (farther (faces_of nodes tris) (whole_tree (faces_of nodes tris)) m (point (get_or nodes k [])) y) y) (get_d_tabulate (is_corner tris) (length nodes) k false b))
+      (λ k b y. ap (λ (c : Bool). choose c (farther (faces_of nodes tris) (whole_tree (faces_of nodes tris)) m (point (get_or nodes k [])) y) y) (get_or-tabulate (is_corner tris) (length nodes) k false b))
 
   -- no triangles, no corners
   pub none_apart : length tris ≡ 0 → asymmetry_of nodes tris m ≡ zero64

@@ -7,7 +7,7 @@ use native.Mathlib.Omega.{arith}
 use lib.ListN.{length, get_or, drop}
 use lib.Ieee.{Float, nan}
 use Rattle.lists.specs.Lists.{tabulate, overwrite, any_to}
-use Rattle.lists.proofs.Laws.{get_d_tabulate, fold_to-none, fold_to-more, overwrite-is, tabulate-same}
+use Rattle.lists.proofs.Laws.{get_or-tabulate, fold_to-none, fold_to-more, overwrite-is, tabulate-same}
 use Rattle.geom.specs.declared.Vec3.{Vec3}
 use Rattle.lent.specs.Points.{point, stored}
 use Rattle.mesh.specs.Mesh.{centroid_of}
@@ -59,7 +59,7 @@ module _ (q : Problem) where
       (λ i lt. ap (λ (p : Vec3). by_node i || any_to (λ s. by_depth q.nodes q.tris (in_set q.surfaces q.starts q.kept s) (get_or q.depths s nan) p) (sets_in q)) (middle i lt))
     where
       middle : (i : ℕ) → i < length q.tets → point (get_or centroids i []) ≡ centroid_of q.nodes (get_or q.tets i [])
-      middle i lt = ap (λ (l : List (List Float)). point (get_or l i [])) em ∙ ap point (get_d_tabulate (λ e. stored (centroid_of q.nodes (get_or q.tets e []))) (length q.tets) i [] lt)
+      middle i lt = ap (λ (l : List (List Float)). point (get_or l i [])) em ∙ ap point (get_or-tabulate (λ e. stored (centroid_of q.nodes (get_or q.tets e []))) (length q.tets) i [] lt)
 
   -- no elements
   pub solid-none : (marks : List Bool) → length q.tets ≡ 0 → marks ≡ tabulate by_node (length q.tets) → marks ≡ tabulate (passive_at q) (length q.tets)

@@ -7,7 +7,7 @@ use native.Mathlib.Omega.{arith}
 use lib.ListN.{length, get_or}
 use lib.Ieee.{binary64, div, le, fits, of_bits}
 use Rattle.lists.specs.Lists.{choose}
-use Rattle.lists.proofs.Laws.{length-tabulate, get_d_tabulate, choose-true, choose-false}
+use Rattle.lists.proofs.Laws.{length-tabulate, get_or-tabulate, choose-true, choose-false}
 use Rattle.ieee.specs.Basic.{one64}
 use Rattle.ieee_root.specs.Sqrt.{sqrt_of}
 use Rattle.oc_goal.specs.Goal.{start_density}
@@ -103,7 +103,7 @@ start-all : (o : Opening) → first_refusal o ≡ 0 → AllRange (start_of o)
 unfolding start_of start_design
 start-all o e k h =
     let l : k < length o.passive = subst (λ (n : ℕ). k < n) (length-tabulate _ (length o.passive)) h in
-    subst Range (sym (get_d_tabulate _ (length o.passive) k _ l)) (choose-either Range (get_or o.passive k false) one64 (start_density (solid_of o) (total_of o) (target_at o)) one-range (start-range o e))
+    subst Range (sym (get_or-tabulate _ (length o.passive) k _ l)) (choose-either Range (get_or o.passive k false) one64 (start_density (solid_of o) (total_of o) (target_at o)) one-range (start-range o e))
 
 not-refused : (o : Opening) (n : ℕ) → at_first o n ≡ Opens → n ≡ 0
 not-refused o zero e = refl

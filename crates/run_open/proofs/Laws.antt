@@ -10,7 +10,7 @@ use lib.Dec.{eqb}
 use lib.Ieee.{Float}
 use borrow.Author.Tests.{ltb-false, eqb-true, ne_eqb, not-false}
 use Rattle.lists.specs.Lists.{tabulate, choose, zero64, overlay}
-use Rattle.lists.proofs.Laws.{neither, choose-false, length-tabulate, get_d_tabulate, overwrite-is}
+use Rattle.lists.proofs.Laws.{neither, choose-false, length-tabulate, get_or-tabulate, overwrite-is}
 use Rattle.ieee.specs.Basic.{one64}
 use Rattle.filter.specs.Filter.{start}
 use Rattle.filter.specs.Build.{Lent, outcome, Built}
@@ -160,7 +160,7 @@ module _ (s : State) (g : Asked) (room : ℕ) (l : Core) (w : Work) where
       entries-are e f =
           f ∙ (λ i. get_or (starts_is i) (sym long i) 0)
           ∙ get_or-append (starts_of o) _ 0 (length g.centroids) (omega (arith, length-tabulate (start g.centroids g.goal.radius g.mirrors) (length g.centroids + 1)))
-          ∙ get_d_tabulate (start g.centroids g.goal.radius g.mirrors) (length g.centroids + 1) (length g.centroids) 0 (omega arith)
+          ∙ get_or-tabulate (start g.centroids g.goal.radius g.mirrors) (length g.centroids + 1) (length g.centroids) 0 (omega arith)
 
       -- the flag is set
       shut : (r : Returned) (x q : List Float) (w₂ : Work) → g.flag ≡ true → ShutBy s l.design l.density w₁ r x q w₂

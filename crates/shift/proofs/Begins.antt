@@ -8,7 +8,7 @@ use native.Mathlib.Omega.{arith}
 use lib.Dec.{ltb}
 use lib.ListN.{length, get_or, replicate, get_or-replicate, get_or-eq_default}
 use borrow.Author.Tests.{lt-ltb, le-ltb}
-use Rattle.lists.proofs.Laws.{get_d_tabulate, choose-true, choose-false}
+use Rattle.lists.proofs.Laws.{get_or-tabulate, choose-true, choose-false}
 use Rattle.lists.proofs.Bools.{le-or-lt}
 use Rattle.shift.specs.declared.Shift.{Shift}
 use Rattle.shift.specs.declared.ShiftBegun.{ShiftBegun}
@@ -29,11 +29,11 @@ zeros j = ⊎_elim (λ (h : 16 ≤ j). get_or-eq_default (replicate 16 0) 0 h) (
 module _ (jobs : List (List ℕ)) (f : Fit jobs) where
   share-is : (j : ℕ) → j < 16 → share_at (fresh jobs) j ≡ share_of jobs j
   unfolding fresh
-  share-is j h = get_d_tabulate (share_of jobs) 16 j 0 h
+  share-is j h = get_or-tabulate (share_of jobs) 16 j 0 h
 
   limit_is : (j : ℕ) → j < 16 → limit_at (fresh jobs) j ≡ limit_of jobs j
   unfolding fresh
-  limit_is j h = get_d_tabulate (limit_of jobs) 16 j 0 h
+  limit_is j h = get_or-tabulate (limit_of jobs) 16 j 0 h
 
   none_is : (j : ℕ) → granted_at (fresh jobs) j ≡ 0
   unfolding fresh

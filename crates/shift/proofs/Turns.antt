@@ -8,7 +8,7 @@ use lib.Dec.{leb}
 use lib.ListN.{get_or}
 use borrow.Author.Tests.{leb-false}
 use Rattle.lists.specs.Lists.{fold_to, choose, tabulate}
-use Rattle.lists.proofs.Laws.{fold_to-same, get_d_tabulate}
+use Rattle.lists.proofs.Laws.{fold_to-same, get_or-tabulate}
 use Rattle.shift.specs.declared.Shift.{Shift}
 use Rattle.shift.specs.Grants.{granted_at, share_at, is_named, waits, sooner, turn, chosen_of}
 
@@ -31,4 +31,4 @@ pub chosen_is : (s : Shift) (named : List ℕ) (marks : List Bool) → marks ≡
 unfolding turn chosen_of
 chosen_is s named marks e =
     fold_to-same (turn s (λ j. get_or marks j false)) (turn s (is_named named)) 16 16
-    (λ k h best. ap (λ (t : Bool). turn s (λ _. t) k best) (ap (λ (l : List Bool). get_or l k false) e ∙ get_d_tabulate (is_named named) 16 k false h))
+    (λ k h best. ap (λ (t : Bool). turn s (λ _. t) k best) (ap (λ (l : List Bool). get_or l k false) e ∙ get_or-tabulate (is_named named) 16 k false h))

@@ -8,7 +8,7 @@ use lib.ListN.{length, get_or}
 use lib.Ieee.{of_bits, binary64}
 use borrow.Author.Tests.{ltb-false}
 use Rattle.lists.specs.Lists.{choose, overwrite}
-use Rattle.lists.proofs.Laws.{overwrite-same, get_d-overwrite-below, neither}
+use Rattle.lists.proofs.Laws.{overwrite-same, get_or-overwrite-below, neither}
 use Rattle.strip.specs.declared.Job.{Job}
 use Rattle.strip.specs.declared.Answer.{Answer}
 use Rattle.strip.specs.declared.Answer.TheVariants.{Read, Refused}
@@ -92,7 +92,7 @@ roomy l n k h =
 -- what is read back is what was written
 pub through : {A B : Type 0} (g : A → B) (f : ℕ → A) (n : ℕ) (l : List A) (d : A) (to : List B) → n ≤ length l
     → overwrite (λ i. g (get_or (overwrite f n l) i d)) n to ≡ overwrite (λ i. g (f i)) n to
-through g f n l d to h = overwrite-same _ _ n to (λ k q. ap g (get_d-overwrite-below f n l k d q (omega arith)))
+through g f n l d to h = overwrite-same _ _ n to (λ k q. ap g (get_or-overwrite-below f n l k d q (omega arith)))
 
 -- ---- the three ways
 pub no_read : (bytes : List ℕ) (p : Patterns) (l l' : Lists) → (accepted bytes && not (short p (elements_of bytes) (mirrors_of bytes))) ≡ false → Loaded bytes p l false l'

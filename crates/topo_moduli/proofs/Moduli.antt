@@ -26,10 +26,10 @@ tested : T (every right 0 patterns)
 unfolding right patterns modulus_at modulus_of density_of mul div add sub of_int of_bits to_bits
 tested = tt
 
-get_d_map : (l : List ℕ) (k : ℕ) → k < length l → get_or (map (of_bits binary64) l) k nan ≡ of_bits binary64 (get_or l k 0)
-get_d_map [] k h = absurd (not-suc-le-zero h)
-get_d_map (x ∷ l) zero h = refl
-get_d_map (x ∷ l) (suc k) h = get_d_map l k (le_of_suc-le-suc h)
+get_or_map : (l : List ℕ) (k : ℕ) → k < length l → get_or (map (of_bits binary64) l) k nan ≡ of_bits binary64 (get_or l k 0)
+get_or_map [] k h = absurd (not-suc-le-zero h)
+get_or_map (x ∷ l) zero h = refl
+get_or_map (x ∷ l) (suc k) h = get_or_map l k (le_of_suc-le-suc h)
 
 pub modulus-fits : (level : ℕ) → T (fits binary64 (modulus_at level))
 unfolding modulus_at modulus_of
@@ -38,7 +38,7 @@ modulus-fits level = mul-fits binary64 _ _
 -- "each entry equal to the formula of `modulus`"
 pub entry : (level : ℕ) → level < 1001 → get_or (map (of_bits binary64) patterns) level nan ≡ modulus_at level
 unfolding right patterns
-entry level h = get_d_map patterns level h ∙ ap (of_bits binary64) (eqb→eq _ _ (at right patterns 0 tested level h)) ∙ of_bits-to_bits binary64 (modulus_at level) (modulus-fits level)
+entry level h = get_or_map patterns level h ∙ ap (of_bits binary64) (eqb→eq _ _ (at right patterns 0 tested level h)) ∙ of_bits-to_bits binary64 (modulus_at level) (modulus-fits level)
 
 -- ---- the moduli rise
 -- each pattern is of a float below the next one's
@@ -60,7 +60,7 @@ climbs-at (x ∷ y ∷ l) (suc k) t h = climbs-at (y ∷ l) k (and_r (lt (of_bit
 
 is-pattern : (level : ℕ) → level < 1001 → of_bits binary64 (get_or patterns level 0) ≡ modulus_at level
 unfolding patterns
-is-pattern level h = sym (get_d_map patterns level h) ∙ entry level h
+is-pattern level h = sym (get_or_map patterns level h) ∙ entry level h
 
 next-above : (level : ℕ) → level < 1000 → T (lt (modulus_at level) (modulus_at (suc level)))
 unfolding patterns

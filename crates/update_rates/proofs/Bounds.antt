@@ -11,7 +11,7 @@ use lib.Ieee.{Float, nan, fin, binary64, add, sub, mul, div, le, lt, fits, of_bi
 use lib.Ieee.Fits.{add-fits, sub-fits, mul-fits}
 use lib.Ieee.Positive.{between}
 use Rattle.lists.specs.Lists.{choose, zero64}
-use Rattle.lists.proofs.Laws.{length-tabulate, get_d_tabulate, choose-true, choose-false}
+use Rattle.lists.proofs.Laws.{length-tabulate, get_or-tabulate, choose-true, choose-false}
 use Rattle.ieee.specs.Basic.{one64, max_of, min_of}
 use Rattle.ieee_root.specs.Sqrt.{sqrt_of}
 use Rattle.ieee.proofs.Order.{le-number, le_transitive}
@@ -130,7 +130,7 @@ module _ (g : Given) where
   -- the value of an element
   value : (k : ℕ) → k < length g.x → get_or (updated g).design k nan ≡ next_of (get_or g.passive k false) (get_or g.x k nan) (get_or g.gain k nan) g.move updated-tried.rate
   unfolding trial design_at
-  value k h = ap (λ (l : List Float). get_or l k nan) updated-tried.is ∙ get_d_tabulate _ _ k nan h
+  value k h = ap (λ (l : List Float). get_or l k nan) updated-tried.is ∙ get_or-tabulate _ _ k nan h
 
   module _ (all : AllRange g.x) (m : Move g.move) where
     next-range : (b : Bool) (k : ℕ) → k < length g.x → Range (next_of b (get_or g.x k nan) (get_or g.gain k nan) g.move updated-tried.rate)

@@ -10,7 +10,7 @@ use lib.Ieee.{Float, nan, binary64, add, sub, mul, div, lt, le, is_nan, fits, of
 use lib.Ieee.Fits.{div-fits}
 use lib.Ieee.Positive.{positive, between}
 use Rattle.lists.specs.Lists.{fold_to, sum_to, choose, zero64}
-use Rattle.lists.proofs.Laws.{get_d_tabulate, length-tabulate}
+use Rattle.lists.proofs.Laws.{get_or-tabulate, length-tabulate}
 use Rattle.ieee.specs.Basic.{one64, abs_of, max_of}
 use Rattle.ieee_root.specs.Sqrt.{sqrt_of}
 use Rattle.ieee.proofs.Order.{le_reflexive, le_transitive, le-number, le_not_lt}
@@ -103,7 +103,7 @@ module _ (g : Given) (solid : Float) (o : Orderly g solid) where
 
   value-is : (r : Float) (k : ℕ) → k < length g.x → get_or (trial g r) k nan ≡ value r k
   unfolding trial design_at
-  value-is r k h = get_d_tabulate (value r) (length g.x) k nan h
+  value-is r k h = get_or-tabulate (value r) (length g.x) k nan h
 
   value-finite : (r : Float) (k : ℕ) → k < length g.x → Finite (value r k)
   unfolding next_of choose

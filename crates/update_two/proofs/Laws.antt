@@ -7,7 +7,7 @@ use native.Mathlib.Omega.{arith}
 use lib.ListN.{length, get_or}
 use lib.Ieee.{Float, nan, binary64, add, mul, div}
 use Rattle.lists.specs.Lists.{tabulate, sum_to, choose}
-use Rattle.lists.proofs.Laws.{sum_to-more, get_d_tabulate, length-tabulate, sum_to-same}
+use Rattle.lists.proofs.Laws.{sum_to-more, get_or-tabulate, length-tabulate, sum_to-same}
 use Rattle.ieee.specs.Basic.{one64, clamp_of}
 use Rattle.ieee_tanh.specs.Tanh.{tanh_of}
 use Rattle.filter_table.specs.Table.{row_sum, applied}
@@ -45,5 +45,5 @@ module _ (beta : Float) (starts near : List ℕ) (coef volumes : List Float) (pa
   parts_are =
       let share : ℕ → Float = λ k. mul binary64 (get_or volumes k nan) (get_or (tabulate seen (length passive)) k nan) in
       sum_to-same (part beta starts near coef volumes passive y) share (min (length volumes) (length passive))
-      (λ k h. ap (mul binary64 (get_or volumes k nan)) (sym (get_d_tabulate seen (length passive) k nan (omega arith) ∙ ap (element_density (At beta) (get_or passive k false)) (get_d_tabulate sums (length passive) k nan (omega arith)))))
+      (λ k h. ap (mul binary64 (get_or volumes k nan)) (sym (get_or-tabulate seen (length passive) k nan (omega arith) ∙ ap (element_density (At beta) (get_or passive k false)) (get_or-tabulate sums (length passive) k nan (omega arith)))))
       ∙ ap (λ (n : ℕ). sum_to share (min (length volumes) n)) (sym (length-tabulate seen (length passive)))

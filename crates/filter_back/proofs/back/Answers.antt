@@ -1,7 +1,7 @@
 -- `filter_back::back` meets its contract. The invariant: the shares of the rows passed are added. Assumes nothing.
 use Rattle.filter_back.proofs.back.Goals as goal
 use Rattle.filter_table.specs.Table.{backed}
-use Rattle.lists.proofs.Laws.{fold_to-none, fold_to-more, get_d_any, tabulate_throughout}
+use Rattle.lists.proofs.Laws.{fold_to-none, fold_to-more, get_or_any, tabulate_throughout}
 use Rattle.lists.specs.Lists.{zero64}
 use borrow.Author.Rules.{rules}
 use lib.Ieee.{nan}
@@ -28,7 +28,7 @@ share-requires c = tt
 pub loop-e-preserved : goal.loop-e-preserved
 loop-e-preserved c = let l = c.loop-e in
     let g = c.args.g.now in
-    (search rules, search rules, rw (c.share.ensures, c.start_at-to.ensures, c.start_at-from.ensures, get_d_any g l.e nan zero64 (omega arith), l.invariant.2) (fold_to-more _ _ _))
+    (search rules, search rules, rw (c.share.ensures, c.start_at-to.ensures, c.start_at-from.ensures, get_or_any g l.e nan zero64 (omega arith), l.invariant.2) (fold_to-more _ _ _))
 
 pub returns : goal.returns
 unfolding backed

@@ -2,7 +2,7 @@
 use Rattle.filter_table.proofs.Laws.{row_end-within}
 use Rattle.filter_table.proofs.row.Goals as goal
 use Rattle.filter_table.specs.Table.{product, row_sum}
-use Rattle.lists.proofs.Laws.{sum_over-none, sum_over-more, get_d_any}
+use Rattle.lists.proofs.Laws.{sum_over-none, sum_over-more, get_or_any}
 use Rattle.lists.specs.Lists.{zero64}
 use borrow.Author.Rules.{rules}
 use lib.Ieee.{nan}
@@ -27,7 +27,7 @@ pub loop-k-preserved : goal.loop-k-preserved
 unfolding product
 loop-k-preserved c = let l = c.loop-k in
     let a = c.args in
-    (search rules, search rules, rw (l.invariant.2, get_d_any a.x.now (get_or a.near.now l.k 0) nan zero64 (c.requires.inside l.k (omega arith))) (sum_over-more _ _ _ l.invariant.0))
+    (search rules, search rules, rw (l.invariant.2, get_or_any a.x.now (get_or a.near.now l.k 0) nan zero64 (c.requires.inside l.k (omega arith))) (sum_over-more _ _ _ l.invariant.0))
 
 pub returns : goal.returns
 unfolding row_sum

@@ -1,6 +1,6 @@
 -- `mesh_triangles::triangles` meets its contract. The loop's invariant: the triangles of the tetrahedra passed are stored (`Placed`). Assumes nothing.
 use Prim.Native.Nat.{ℕ, ◌+◌, ◌≤◌, ◌<◌, ◌-◌}
-use Rattle.lists.proofs.Laws.{get_d-overwrite-below}
+use Rattle.lists.proofs.Laws.{get_or-overwrite-below}
 use Rattle.lists.specs.Lists.{fold_to}
 use Rattle.mesh_lattice.proofs.Ways.{four-inside}
 use Rattle.mesh_lattice.specs.Bounds.{InsideAll}
@@ -40,7 +40,7 @@ pub loop-e-smaller : goal.loop-e-smaller
 loop-e-smaller c = omega arith
 
 pub loop-e-preserved : goal.loop-e-preserved
-loop-e-preserved c = (omega arith, turn-placed _ _ _ _ _ _ _ _ c.corners.ensures ((let h : get_or c.args.tets.now c.loop-e.e [] ≡ tet_of c.args.g c.loop-e.e = let e = c.loop-e.e in let l = c.args.tets.now in ap (λ (t : List (List ℕ)). get_or t e []) c.requires.tets-are ∙ get_d-overwrite-below (tet_of c.args.g) (tets_in c.args.g) l e [] ((let h : c.loop-e.e < tets_in c.args.g = omega (arith, c.tet_count-n.ensures) in h)) (omega (arith, (let h : c.loop-e.e < tets_in c.args.g = omega (arith, c.tet_count-n.ensures) in h), c.requires.places)) in h)) c.put_faces-at.ensures.placing c.loop-e.invariant.1)
+loop-e-preserved c = (omega arith, turn-placed _ _ _ _ _ _ _ _ c.corners.ensures ((let h : get_or c.args.tets.now c.loop-e.e [] ≡ tet_of c.args.g c.loop-e.e = let e = c.loop-e.e in let l = c.args.tets.now in ap (λ (t : List (List ℕ)). get_or t e []) c.requires.tets-are ∙ get_or-overwrite-below (tet_of c.args.g) (tets_in c.args.g) l e [] ((let h : c.loop-e.e < tets_in c.args.g = omega (arith, c.tet_count-n.ensures) in h)) (omega (arith, (let h : c.loop-e.e < tets_in c.args.g = omega (arith, c.tet_count-n.ensures) in h), c.requires.places)) in h)) c.put_faces-at.ensures.placing c.loop-e.invariant.1)
 
 pub shape_of-surfaces : goal.shape_of-surfaces
 shape_of-surfaces c = surfaces-long _ _ _ _ c.loop-e.invariant.1

@@ -1,6 +1,6 @@
 -- `mesh_triangles::triangles` meets its contract. The loop's invariant: the triangles of the tetrahedra passed are stored (`Placed`). Assumes nothing.
 use Prim.Native.Nat.{ℕ, ◌+◌, ◌≤◌, ◌<◌, ◌-◌}
-use Rattle.lists.proofs.Laws.{get_d-overwrite-below}
+use Rattle.lists.proofs.Laws.{get_or-overwrite-below}
 use Rattle.lists.specs.Lists.{fold_to}
 use Rattle.mesh_lattice.proofs.Ways.{four-inside}
 use Rattle.mesh_lattice.specs.Bounds.{InsideAll}

@@ -1,7 +1,7 @@
 -- `update_design::copy` meets its contract: the places passed are filled. Assumes nothing.
 use Rattle.lists.proofs.Filled.{stored, filled}
 use Rattle.lists.proofs.Laws.{overwrite-none}
-use Rattle.update_design.proofs.Copied.{tabulate_get_d}
+use Rattle.update_design.proofs.Copied.{tabulate-get_or}
 use Rattle.update_design.proofs.copy.Goals as goal
 use borrow.Author.Rules.{rules}
 use lib.Ieee.{nan}
@@ -15,4 +15,4 @@ pub loop-i-preserved : goal.loop-i-preserved
 loop-i-preserved c = (search rules, search rules, stored _ _ _ _ c.loop-i.invariant.2 _ (omega arith) refl)
 
 pub returns : goal.returns
-returns c = filled _ _ _ _ c.loop-i.invariant.2 _ (omega arith) (omega arith) ∙ tabulate_get_d _ nan
+returns c = filled _ _ _ _ c.loop-i.invariant.2 _ (omega arith) (omega arith) ∙ tabulate-get_or _ nan

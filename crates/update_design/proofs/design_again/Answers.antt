@@ -4,7 +4,7 @@ use Rattle.ieee_lanes.proofs.Same.{eq-same}
 use Rattle.lists.proofs.Filled.{unwritten, stored, filled}
 use Rattle.lists.proofs.Laws.{overwrite-none, both, tabulate-same}
 use Rattle.lists.specs.Lists.{zero64}
-use Rattle.update_design.proofs.Copied.{tabulate_get_d}
+use Rattle.update_design.proofs.Copied.{tabulate-get_or}
 use Rattle.update_design.proofs.design_again.Goals as goal
 use Rattle.update_design.specs.Design.{design_at}
 use borrow.Author.Count.{below_more}
@@ -35,5 +35,5 @@ pub returns : goal.returns
 unfolding design_at
 returns c = let l = c.loop-i in (
   filled _ _ _ _ l.invariant.2 _ (omega arith) (omega arith),
-  λ e. filled _ _ _ _ l.invariant.2 _ (omega arith) refl ∙ tabulate-same _ _ _ (λ k h. l.invariant.3 e k (omega arith)) ∙ tabulate_get_d _ nan,
+  λ e. filled _ _ _ _ l.invariant.2 _ (omega arith) refl ∙ tabulate-same _ _ _ (λ k h. l.invariant.3 e k (omega arith)) ∙ tabulate-get_or _ nan,
 )

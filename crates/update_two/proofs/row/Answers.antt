@@ -2,7 +2,7 @@
 use Prim.Native.Nat.{◌<◌}
 use Rattle.filter_table.proofs.Laws.{row_end-within}
 use Rattle.filter_table.specs.Table.{product, row_sum}
-use Rattle.lists.proofs.Laws.{sum_over-none, sum_over-more, get_d_any}
+use Rattle.lists.proofs.Laws.{sum_over-none, sum_over-more, get_or_any}
 use Rattle.lists.specs.Lists.{zero64}
 use Rattle.update_two.proofs.row.Goals as goal
 use borrow.Author.Rules.{rules}
@@ -37,8 +37,8 @@ loop-k-preserved c = let l = c.loop-k in
     let h : get_or c.args.near.now c.loop-k.k 0 < length c.args.x.now = c.requires.0.inside c.loop-k.k (omega arith) in (
       search rules,
       search rules,
-      rw (l.invariant.2, get_d_any a.x.now (get_or a.near.now l.k 0) nan zero64 h) (sum_over-more _ _ _ l.invariant.0),
-      rw (l.invariant.3, get_d_any a.y.now (get_or a.near.now l.k 0) nan zero64 (omega (arith, h, c.requires.1))) (sum_over-more _ _ _ l.invariant.0),
+      rw (l.invariant.2, get_or_any a.x.now (get_or a.near.now l.k 0) nan zero64 h) (sum_over-more _ _ _ l.invariant.0),
+      rw (l.invariant.3, get_or_any a.y.now (get_or a.near.now l.k 0) nan zero64 (omega (arith, h, c.requires.1))) (sum_over-more _ _ _ l.invariant.0),
     )
 
 pub returns : goal.returns
