@@ -20,7 +20,7 @@ below-zero f v r p h b = go p.n (λ (q : 0 < p.n). p.under plus_zero 0 (record {
     go zero g = lt_of_le_of_lt (sq-le {a = 0 - b} {b = 0} (omega arith)) (omega arith)
     go (suc n) g = lt_of_le_of_lt (sq-le (omega arith)) (g (zero-lt-suc n))
 
--- IEEE 754's squareRoot: every case, and every competitor
+-- IEEE 754's square_root: every case, and every competitor
 pub sqrt_ieee : (f : Format) → SquareRoot f
 unfolding sqrt_of
 sqrt_ieee f = record {

@@ -1,4 +1,4 @@
--- IEEE 754's squareRoot on binary32 and binary64, document 01's "IEEE square root, the nearest value, stated by comparing integer squares". Definitions only.
+-- IEEE 754's square_root on binary32 and binary64, document 01's "IEEE square root, the nearest value, stated by comparing integer squares". Definitions only.
 -- The result is the exact root, rounded once to the nearest value.
 -- A root that is not exact has more digits than a format keeps and is never half way between two values, so no tie arises.
 -- A nan, and a number below zero, have the root nan; a zero is its own root, sign and all; and the infinity above is its own.
@@ -67,7 +67,7 @@ pub record RootOf (f : Format) (x r : Float) : Type 0 where
   pub root : Nearest f (a * 2 ^ low f) r
   pub opposite : (b : ℕ) → 0 < b → (root.n - b) * (root.n - b) < 4 * (a * 2 ^ low f)
 
--- IEEE 754's squareRoot, for every value that the format holds: the law `sqrt_ieee` says this of `sqrt_of`
+-- IEEE 754's square_root, for every value that the format holds: the law `sqrt_ieee` says this of `sqrt_of`
 pub record SquareRoot (f : Format) : Type 0 where
   pub of_nan : sqrt_of f nan ≡ nan
   pub of-infinity : sqrt_of f (inf false) ≡ inf false
