@@ -1,7 +1,6 @@
 -- `ieee_bits::from_bits` meets its contract: a pattern above the infinity's, the sign's bit taken off, is a NaN's. Assumes nothing.
 use Rattle.ieee_bits.proofs.Patterns.{above-nan, below_nan}
 use Rattle.ieee_bits.proofs.from_bits.Goals as goal
-use borrow.Author.Rules.{rules}
 use lib.Dec.{T}
 use lib.Ieee.{of_bits, div}
 use mathlib.Core.Bool.{Bool, not}

@@ -1,7 +1,6 @@
 -- `ieee_bits::to_bits` meets its contract: only a NaN differs from itself. Assumes nothing.
 use Rattle.ieee.proofs.Comparing.{holds, number}
 use Rattle.ieee_bits.proofs.to_bits.Goals as goal
-use borrow.Author.Rules.{rules}
 use lib.Ieee.Compare.{differs_from_itself}
 use lib.Ieee.{binary64, to_bits}
 use mathlib.Core.Path.{sym, ap}

@@ -1,7 +1,6 @@
 -- `ieee_bits::total_key` meets its contract: both ways out are those of `total_key`. Assumes nothing.
 use Rattle.ieee_bits.proofs.total_key.Goals as goal
 use Rattle.ieee_bits.specs.Bits.{total_key}
-use borrow.Author.Rules.{rules}
 use borrow.Author.Tests.{lt-ltb, le-ltb}
 use native.Mathlib.Omega.{arith}
 
