@@ -24,7 +24,7 @@ module _ (c : tie.Else1) where
   ok : Accepted c.before.before.before.before.args.g (length c.before.before.before.before.args.nodes.now) (length c.before.before.before.before.args.tets.now) (length c.before.before.before.before.args.surfaces.now) (length c.before.before.before.before.args.tris.now) (length c.before.before.before.before.args.edges.now)
   ok = accepted _ _ _ _ _ _ (sym c.before.refusal.ensures ∙ at-most-zero _ c.if1.false)
 
--- where nothing is refused
+  -- where nothing is refused
   small : Small c.before.before.before.before.args.g
   small = small_of _ c.before.before.before.before.requires ok.few-tets
 
@@ -69,13 +69,13 @@ overflow_cast-result-3 c = omega (arith, c.triangles-t.ensures.next-is, (ok c.be
 
 pub returns : goal.returns
 returns c = record {
-      refusal = sym (at-most-zero _ c.if-r-gt0.false) ∙ c.refusal-r.ensures;
-      node-count = c.build-n.ensures.next-is ∙ unless-accepted 0 _ 0 refl;
-      tet-count = c.tet_count.ensures ∙ unless-accepted 0 _ 0 refl;
-      tri-count = c.triangles-t.ensures.next-is ∙ unless-accepted 0 _ 0 refl;
-      nodes-are = c.build-n.ensures.nodes-are ∙ unless-accepted 0 _ c.args.nodes.now refl;
-      tets-are = c.build-n.ensures.tets-are ∙ unless-accepted 0 _ c.args.tets.now refl;
-      surfaces-are = c.triangles-t.ensures.surfaces-are ∙ unless-accepted 0 _ c.args.surfaces.now refl;
-      tris-are = c.triangles-t.ensures.tris-are ∙ unless-accepted 0 _ c.args.tris.now refl;
-      edges_are = c.build-n.ensures.edges_are ∙ unless-accepted 0 _ c.args.edges.now refl;
-    }
+  refusal = sym (at-most-zero _ c.if-r-gt0.false) ∙ c.refusal-r.ensures;
+  node-count = c.build-n.ensures.next-is ∙ unless-accepted 0 _ 0 refl;
+  tet-count = c.tet_count.ensures ∙ unless-accepted 0 _ 0 refl;
+  tri-count = c.triangles-t.ensures.next-is ∙ unless-accepted 0 _ 0 refl;
+  nodes-are = c.build-n.ensures.nodes-are ∙ unless-accepted 0 _ c.args.nodes.now refl;
+  tets-are = c.build-n.ensures.tets-are ∙ unless-accepted 0 _ c.args.tets.now refl;
+  surfaces-are = c.triangles-t.ensures.surfaces-are ∙ unless-accepted 0 _ c.args.surfaces.now refl;
+  tris-are = c.triangles-t.ensures.tris-are ∙ unless-accepted 0 _ c.args.tris.now refl;
+  edges_are = c.build-n.ensures.edges_are ∙ unless-accepted 0 _ c.args.edges.now refl;
+}

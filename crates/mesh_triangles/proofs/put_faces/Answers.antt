@@ -22,9 +22,9 @@ put_face-requires c = let h = c.requires.0.1 in
 pub returns : goal.returns
 unfolding placed_all
 returns c = record {
-      placing = face-placed _ _ _ _ _ _ _ _ _ _ c.sides_of-s.ensures.bcd c.put_face.ensures.placing
-          (face-placed _ _ _ _ _ _ _ _ _ _ c.sides_of-s.ensures.acd c.put_face-n2.ensures.placing
-          (face-placed _ _ _ _ _ _ _ _ _ _ c.sides_of-s.ensures.abd c.put_face-n1.ensures.placing
-          (face-placed _ _ _ _ _ _ _ _ _ _ c.sides_of-s.ensures.abc c.put_face-n0.ensures.placing
-          (refl))));
-    }
+  placing = face-placed _ _ _ _ _ _ _ _ _ _ c.sides_of-s.ensures.bcd c.put_face.ensures.placing
+      (face-placed _ _ _ _ _ _ _ _ _ _ c.sides_of-s.ensures.acd c.put_face-n2.ensures.placing
+      (face-placed _ _ _ _ _ _ _ _ _ _ c.sides_of-s.ensures.abd c.put_face-n1.ensures.placing
+      (face-placed _ _ _ _ _ _ _ _ _ _ c.sides_of-s.ensures.abc c.put_face-n0.ensures.placing
+      (refl))));
+}

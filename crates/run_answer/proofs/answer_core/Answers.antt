@@ -8,16 +8,16 @@ use borrow.Author.Rules.{rules}
 use mathlib.Core.Path.{refl}
 
 pub returns-in-Kept : goal.returns-in-Kept
-returns-in-Kept c = kept_law c.args.state ((record { heard = c.args.heard; energies = c.args.energies.now })) c.args.room ((record { volumes = c.args.volumes.now; passive = c.args.passive.now; starts = c.args.starts.now; near = c.args.near.now; coef = c.args.coef.now; design = c.args.design.now; density = c.args.density.now; last = c.args.last.now; })) ((record { free = c.args.free.now; slope = c.args.slope.now; spare = c.args.spare.now; dc = c.args.dc.now; dv = c.args.dv.now })) _ c.verdict-v.ensures _ _ c.in-Kept.is c.unrecorded.ensures
+returns-in-Kept c = kept_law c.args.state ((record { heard = c.args.heard; energies = c.args.energies.now })) c.args.room ((record { volumes = c.args.volumes.now; passive = c.args.passive.now; starts = c.args.starts.now; near = c.args.near.now; coef = c.args.coef.now; design = c.args.design.now; density = c.args.density.now; last = c.args.last.now })) ((record { free = c.args.free.now; slope = c.args.slope.now; spare = c.args.spare.now; dc = c.args.dc.now; dv = c.args.dv.now })) _ c.verdict-v.ensures _ _ c.in-Kept.is c.unrecorded.ensures
 
 pub returns-in-Over : goal.returns-in-Over
-returns-in-Over c = over_law c.args.state ((record { heard = c.args.heard; energies = c.args.energies.now })) c.args.room ((record { volumes = c.args.volumes.now; passive = c.args.passive.now; starts = c.args.starts.now; near = c.args.near.now; coef = c.args.coef.now; design = c.args.design.now; density = c.args.density.now; last = c.args.last.now; })) ((record { free = c.args.free.now; slope = c.args.slope.now; spare = c.args.spare.now; dc = c.args.dc.now; dv = c.args.dv.now })) _ c.verdict-v.ensures _ _ _ c.in-Over.is c.ended.ensures c.unrecorded-in-Over.ensures
+returns-in-Over c = over_law c.args.state ((record { heard = c.args.heard; energies = c.args.energies.now })) c.args.room ((record { volumes = c.args.volumes.now; passive = c.args.passive.now; starts = c.args.starts.now; near = c.args.near.now; coef = c.args.coef.now; design = c.args.design.now; density = c.args.density.now; last = c.args.last.now })) ((record { free = c.args.free.now; slope = c.args.slope.now; spare = c.args.spare.now; dc = c.args.dc.now; dv = c.args.dv.now })) _ c.verdict-v.ensures _ _ _ c.in-Over.is c.ended.ensures c.unrecorded-in-Over.ensures
 
 pub returns-in-Halts : goal.returns-in-Halts
-returns-in-Halts c = halts_law c.args.state ((record { heard = c.args.heard; energies = c.args.energies.now })) c.args.room ((record { volumes = c.args.volumes.now; passive = c.args.passive.now; starts = c.args.starts.now; near = c.args.near.now; coef = c.args.coef.now; design = c.args.design.now; density = c.args.density.now; last = c.args.last.now; })) ((record { free = c.args.free.now; slope = c.args.slope.now; spare = c.args.spare.now; dc = c.args.dc.now; dv = c.args.dv.now })) _ c.verdict-v.ensures _ _ c.in-Halts.is c.ended-in-Halts.ensures c.unrecorded-in-Halts.ensures
+returns-in-Halts c = halts_law c.args.state ((record { heard = c.args.heard; energies = c.args.energies.now })) c.args.room ((record { volumes = c.args.volumes.now; passive = c.args.passive.now; starts = c.args.starts.now; near = c.args.near.now; coef = c.args.coef.now; design = c.args.design.now; density = c.args.density.now; last = c.args.last.now })) ((record { free = c.args.free.now; slope = c.args.slope.now; spare = c.args.spare.now; dc = c.args.dc.now; dv = c.args.dv.now })) _ c.verdict-v.ensures _ _ c.in-Halts.is c.ended-in-Halts.ensures c.unrecorded-in-Halts.ensures
 
 pub begins-requires : goal.begins-requires
-begins-requires c = asks-from c.args.state c.args.energies.now ((record { volumes = c.args.volumes.now; passive = c.args.passive.now; starts = c.args.starts.now; near = c.args.near.now; coef = c.args.coef.now; design = c.args.design.now; density = c.args.density.now; last = c.args.last.now; })) ((record { free = c.args.free.now; slope = c.args.slope.now; spare = c.args.spare.now; dc = c.args.dc.now; dv = c.args.dv.now })) (begins-enough c.args.state ((record { heard = c.args.heard; energies = c.args.energies.now })) c.args.room ((record { volumes = c.args.volumes.now; passive = c.args.passive.now; starts = c.args.starts.now; near = c.args.near.now; coef = c.args.coef.now; design = c.args.design.now; density = c.args.density.now; last = c.args.last.now; })) ((record { free = c.args.free.now; slope = c.args.slope.now; spare = c.args.spare.now; dc = c.args.dc.now; dv = c.args.dv.now })) _ c.verdict-v.ensures c.in-Begins.is)
+begins-requires c = asks-from c.args.state c.args.energies.now ((record { volumes = c.args.volumes.now; passive = c.args.passive.now; starts = c.args.starts.now; near = c.args.near.now; coef = c.args.coef.now; design = c.args.design.now; density = c.args.density.now; last = c.args.last.now })) ((record { free = c.args.free.now; slope = c.args.slope.now; spare = c.args.spare.now; dc = c.args.dc.now; dv = c.args.dv.now })) (begins-enough c.args.state ((record { heard = c.args.heard; energies = c.args.energies.now })) c.args.room ((record { volumes = c.args.volumes.now; passive = c.args.passive.now; starts = c.args.starts.now; near = c.args.near.now; coef = c.args.coef.now; design = c.args.design.now; density = c.args.density.now; last = c.args.last.now })) ((record { free = c.args.free.now; slope = c.args.slope.now; spare = c.args.spare.now; dc = c.args.dc.now; dv = c.args.dv.now })) _ c.verdict-v.ensures c.in-Begins.is)
 
 pub shape_of-design-in-Begins : goal.shape_of-design-in-Begins
 shape_of-design-in-Begins c = refl
@@ -29,11 +29,11 @@ pub shape_of-slope-in-Begins : goal.shape_of-slope-in-Begins
 shape_of-slope-in-Begins c = c.begins.auto.slope
 
 pub returns-in-Begins : goal.returns-in-Begins
-returns-in-Begins c = begins_law c.args.state ((record { heard = c.args.heard; energies = c.args.energies.now })) c.args.room ((record { volumes = c.args.volumes.now; passive = c.args.passive.now; starts = c.args.starts.now; near = c.args.near.now; coef = c.args.coef.now; design = c.args.design.now; density = c.args.density.now; last = c.args.last.now; })) ((record { free = c.args.free.now; slope = c.args.slope.now; spare = c.args.spare.now; dc = c.args.dc.now; dv = c.args.dv.now })) _ c.verdict-v.ensures _ _ _ c.in-Begins.is c.begins.ensures
+returns-in-Begins c = begins_law c.args.state ((record { heard = c.args.heard; energies = c.args.energies.now })) c.args.room ((record { volumes = c.args.volumes.now; passive = c.args.passive.now; starts = c.args.starts.now; near = c.args.near.now; coef = c.args.coef.now; design = c.args.design.now; density = c.args.density.now; last = c.args.last.now })) ((record { free = c.args.free.now; slope = c.args.slope.now; spare = c.args.spare.now; dc = c.args.dc.now; dv = c.args.dv.now })) _ c.verdict-v.ensures _ _ _ c.in-Begins.is c.begins.ensures
 
 pub solves-requires : goal.solves-requires
 solves-requires c = let f = c.in-Solves.is in
-    record { enough = solves-enough c.args.state ((record { heard = c.args.heard; energies = c.args.energies.now })) c.args.room ((record { volumes = c.args.volumes.now; passive = c.args.passive.now; starts = c.args.starts.now; near = c.args.near.now; coef = c.args.coef.now; design = c.args.design.now; density = c.args.density.now; last = c.args.last.now; })) ((record { free = c.args.free.now; slope = c.args.slope.now; spare = c.args.spare.now; dc = c.args.dc.now; dv = c.args.dv.now })) _ c.verdict-v.ensures f; fit = solves-fit c.args.state ((record { heard = c.args.heard; energies = c.args.energies.now })) (sizes_in (lengths_of ((record { free = c.args.free.now; slope = c.args.slope.now; spare = c.args.spare.now; dc = c.args.dc.now; dv = c.args.dv.now }))) ((record { volumes = c.args.volumes.now; passive = c.args.passive.now; starts = c.args.starts.now; near = c.args.near.now; coef = c.args.coef.now; design = c.args.design.now; density = c.args.density.now; last = c.args.last.now; })) c.args.room) _ c.verdict-v.ensures f }
+    record { enough = solves-enough c.args.state ((record { heard = c.args.heard; energies = c.args.energies.now })) c.args.room ((record { volumes = c.args.volumes.now; passive = c.args.passive.now; starts = c.args.starts.now; near = c.args.near.now; coef = c.args.coef.now; design = c.args.design.now; density = c.args.density.now; last = c.args.last.now })) ((record { free = c.args.free.now; slope = c.args.slope.now; spare = c.args.spare.now; dc = c.args.dc.now; dv = c.args.dv.now })) _ c.verdict-v.ensures f; fit = solves-fit c.args.state ((record { heard = c.args.heard; energies = c.args.energies.now })) (sizes_in (lengths_of ((record { free = c.args.free.now; slope = c.args.slope.now; spare = c.args.spare.now; dc = c.args.dc.now; dv = c.args.dv.now }))) ((record { volumes = c.args.volumes.now; passive = c.args.passive.now; starts = c.args.starts.now; near = c.args.near.now; coef = c.args.coef.now; design = c.args.design.now; density = c.args.density.now; last = c.args.last.now })) c.args.room) _ c.verdict-v.ensures f }
 
 pub shape_of-design-in-Solves : goal.shape_of-design-in-Solves
 shape_of-design-in-Solves c = c.solves.auto.design
@@ -60,4 +60,4 @@ pub shape_of-dv-in-Solves : goal.shape_of-dv-in-Solves
 shape_of-dv-in-Solves c = c.solves.auto.dv
 
 pub returns-in-Solves : goal.returns-in-Solves
-returns-in-Solves c = solves_law c.args.state ((record { heard = c.args.heard; energies = c.args.energies.now })) c.args.room ((record { volumes = c.args.volumes.now; passive = c.args.passive.now; starts = c.args.starts.now; near = c.args.near.now; coef = c.args.coef.now; design = c.args.design.now; density = c.args.density.now; last = c.args.last.now; })) ((record { free = c.args.free.now; slope = c.args.slope.now; spare = c.args.spare.now; dc = c.args.dc.now; dv = c.args.dv.now })) _ c.verdict-v.ensures _ _ _ c.in-Solves.is c.solves.ensures
+returns-in-Solves c = solves_law c.args.state ((record { heard = c.args.heard; energies = c.args.energies.now })) c.args.room ((record { volumes = c.args.volumes.now; passive = c.args.passive.now; starts = c.args.starts.now; near = c.args.near.now; coef = c.args.coef.now; design = c.args.design.now; density = c.args.density.now; last = c.args.last.now })) ((record { free = c.args.free.now; slope = c.args.slope.now; spare = c.args.spare.now; dc = c.args.dc.now; dv = c.args.dv.now })) _ c.verdict-v.ensures _ _ _ c.in-Solves.is c.solves.ensures

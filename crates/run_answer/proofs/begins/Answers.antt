@@ -15,9 +15,9 @@ shape_of-slope c = c.ask.auto.spare
 
 pub returns : goal.returns
 returns c = record {
-      state = c.unrecorded.ensures.0 ∙ c.first_state-s.ensures ∙ ap (first_state c.args.state) c.compliance.ensures;
-      reply = c.unrecorded.ensures.1;
-      at = c.unrecorded.ensures.2;
-      density = c.ask.ensures.0;
-      slope = c.ask.ensures.1;
-    }
+  state = c.unrecorded.ensures.0 ∙ c.first_state-s.ensures ∙ ap (first_state c.args.state) c.compliance.ensures;
+  reply = c.unrecorded.ensures.1;
+  at = c.unrecorded.ensures.2;
+  density = c.ask.ensures.0;
+  slope = c.ask.ensures.1;
+}

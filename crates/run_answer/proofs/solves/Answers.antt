@@ -43,13 +43,13 @@ pub shape_of-dv-in-Ends : goal.shape_of-dv-in-Ends
 shape_of-dv-in-Ends c = c.solve-entry.auto.dv
 
 pub returns-in-Ends : goal.returns-in-Ends
-returns-in-Ends c = stop_law c.args.state ((record { heard = c.args.heard; energies = c.args.energies.now })) ((record { volumes = c.args.volumes.now; passive = c.args.passive.now; starts = c.args.starts.now; near = c.args.near.now; coef = c.args.coef.now; design = c.args.design.now; density = c.args.density.now; last = c.args.last.now; })) ((record { free = c.args.free.now; slope = c.args.slope.now; spare = c.args.spare.now; dc = c.args.dc.now; dv = c.args.dv.now })) _ _ _ _ _ _ _ c.solve-entry.ensures c.course-c.ensures c.in-Ends.is c.recorded_state.ensures
+returns-in-Ends c = stop_law c.args.state ((record { heard = c.args.heard; energies = c.args.energies.now })) ((record { volumes = c.args.volumes.now; passive = c.args.passive.now; starts = c.args.starts.now; near = c.args.near.now; coef = c.args.coef.now; design = c.args.design.now; density = c.args.density.now; last = c.args.last.now })) ((record { free = c.args.free.now; slope = c.args.slope.now; spare = c.args.spare.now; dc = c.args.dc.now; dv = c.args.dv.now })) _ _ _ _ _ _ _ c.solve-entry.ensures c.course-c.ensures c.in-Ends.is c.recorded_state.ensures
 
 pub onward_state-s-requires : goal.onward_state-s-requires
 onward_state-s-requires c = c.requires.fit
 
 pub ask-requires : goal.ask-requires
-ask-requires c = asks-later c.args.state _ _ _ _ _ _ _ _ _ (asks-from c.args.state c.args.energies.now ((record { volumes = c.args.volumes.now; passive = c.args.passive.now; starts = c.args.starts.now; near = c.args.near.now; coef = c.args.coef.now; design = c.args.design.now; density = c.args.density.now; last = c.args.last.now; })) ((record { free = c.args.free.now; slope = c.args.slope.now; spare = c.args.spare.now; dc = c.args.dc.now; dv = c.args.dv.now })) c.requires.enough) c.solve-entry.auto.design c.solve-entry.auto.slope
+ask-requires c = asks-later c.args.state _ _ _ _ _ _ _ _ _ (asks-from c.args.state c.args.energies.now ((record { volumes = c.args.volumes.now; passive = c.args.passive.now; starts = c.args.starts.now; near = c.args.near.now; coef = c.args.coef.now; design = c.args.design.now; density = c.args.density.now; last = c.args.last.now })) ((record { free = c.args.free.now; slope = c.args.slope.now; spare = c.args.spare.now; dc = c.args.dc.now; dv = c.args.dv.now })) c.requires.enough) c.solve-entry.auto.design c.solve-entry.auto.slope
 
 pub next_round-requires : goal.next_round-requires
 next_round-requires c = goes-fit _ _ _ _ c.course-c.ensures c.in-Onward.is
@@ -79,4 +79,4 @@ pub shape_of-dv-in-Onward : goal.shape_of-dv-in-Onward
 shape_of-dv-in-Onward c = c.solve-entry.auto.dv
 
 pub returns-in-Onward : goal.returns-in-Onward
-returns-in-Onward c = onward_law c.args.state ((record { heard = c.args.heard; energies = c.args.energies.now })) ((record { volumes = c.args.volumes.now; passive = c.args.passive.now; starts = c.args.starts.now; near = c.args.near.now; coef = c.args.coef.now; design = c.args.design.now; density = c.args.density.now; last = c.args.last.now; })) ((record { free = c.args.free.now; slope = c.args.slope.now; spare = c.args.spare.now; dc = c.args.dc.now; dv = c.args.dv.now })) _ _ _ _ _ _ _ _ _ c.requires.enough c.solve-entry.ensures c.course-c.ensures c.in-Onward.is c.onward_state-s.ensures c.ask.ensures c.next_round.ensures
+returns-in-Onward c = onward_law c.args.state ((record { heard = c.args.heard; energies = c.args.energies.now })) ((record { volumes = c.args.volumes.now; passive = c.args.passive.now; starts = c.args.starts.now; near = c.args.near.now; coef = c.args.coef.now; design = c.args.design.now; density = c.args.density.now; last = c.args.last.now })) ((record { free = c.args.free.now; slope = c.args.slope.now; spare = c.args.spare.now; dc = c.args.dc.now; dv = c.args.dv.now })) _ _ _ _ _ _ _ _ _ c.requires.enough c.solve-entry.ensures c.course-c.ensures c.in-Onward.is c.onward_state-s.ensures c.ask.ensures c.next_round.ensures

@@ -6,13 +6,13 @@ use mathlib.Core.Path.{sym, ◌∙◌}
 
 pub update-u-requires : goal.update-u-requires
 update-u-requires c = let s = c.slopes_into.kept.1.1.1.1.1.1.1.1.1.1 in (
-      (s.1.1.0 ∙ c.requires.long_2.3) ∙ sym c.requires.long.3,
-      (s.1.1.1.0 ∙ c.requires.long_2.4) ∙ sym c.requires.long.3,
-      sym c.requires.long.3,
-      (s.0 ∙ c.requires.long_2.1) ∙ sym c.requires.long.3,
-      (c.free_volumes.kept.1.1.0 ∙ c.requires.long_2.0) ∙ sym c.requires.long.3,
-      (s.1.0 ∙ c.requires.long_2.2) ∙ sym c.requires.long.3,
-    )
+  (s.1.1.0 ∙ c.requires.long_2.3) ∙ sym c.requires.long.3,
+  (s.1.1.1.0 ∙ c.requires.long_2.4) ∙ sym c.requires.long.3,
+  sym c.requires.long.3,
+  (s.0 ∙ c.requires.long_2.1) ∙ sym c.requires.long.3,
+  (c.free_volumes.kept.1.1.0 ∙ c.requires.long_2.0) ∙ sym c.requires.long.3,
+  (s.1.0 ∙ c.requires.long_2.2) ∙ sym c.requires.long.3,
+)
 
 pub copy-requires : goal.copy-requires
 copy-requires c = c.requires.long.3 ∙ sym (c.update-u.kept.1.1.1.1.1.1.1.1.1.1.1.1.0 ∙ c.slopes_into.kept.1.1.1.1.1.1.1.1.1.1.0 ∙ c.requires.long_2.1)

@@ -13,7 +13,7 @@ abbrev pub rest : Given → Float → Float → List Float → Float → ℕ →
 rest g low high design kept passes = while_to (raises g) (raised g) (200 - passes) (record { low = low; high = high; design = design; kept = kept; passes = passes })
 
 abbrev pub invariant-loop-kept : goal.invariant-loop-kept
-invariant-loop-kept l =     (l.passes ≤ 200)
+invariant-loop-kept l = (l.passes ≤ 200)
     × (length l.design ≡ length l.initial.design)
     × (length l.work ≡ length l.initial.work)
     × (rest (given l.x l.gain l.dv l.passive l.m l.target l.tolerance l.rule l.starts l.near l.coef l.volumes) l.low l.high l.design l.kept l.passes ≡ rest (given l.x l.gain l.dv l.passive l.m l.target l.tolerance l.rule l.starts l.near l.coef l.volumes) l.initial.low l.initial.high l.initial.design l.initial.kept l.initial.passes)

@@ -64,8 +64,7 @@ loop-i-smaller c = omega (arith, c.before.before.before.before.before)
 pub loop-i-preserved : goal.loop-i-preserved
 unfolding coordinate
 loop-i-preserved c = let l = c.loop-i in
-    let a = c.args in
-    (
+    let a = c.args in (
       omega (arith, c.before.before.before.before.before),
       simp length-set l.invariant.1,
       simp length-set l.invariant.2,

@@ -74,11 +74,14 @@ shape_of-first c = let a = c.args in
 
 pub returns : goal.returns
 returns c = let a = c.args in
-    record { marks_after = solid-front ((let a = c.args in record { nodes = a.nodes.now; tets = a.tets.now; tris = a.tris.now; surfaces = a.surfaces.now; held = a.held.now; loaded = a.loaded.now; starts = a.starts.now; kept = a.kept.now; depths = a.depths.now })) c.mark.new.marks a.marks.now c.requires.marked c.mark.ensures; past = record {
+    record {
+      marks_after = solid-front ((let a = c.args in record { nodes = a.nodes.now; tets = a.tets.now; tris = a.tris.now; surfaces = a.surfaces.now; held = a.held.now; loaded = a.loaded.now; starts = a.starts.now; kept = a.kept.now; depths = a.depths.now })) c.mark.new.marks a.marks.now c.requires.marked c.mark.ensures;
+      past = record {
         keeps = drop_at c.mark.new.keep (drop (length a.nodes.now) a.keep.now) (length a.nodes.now) (c.mark.auto.keep ∙ length-take-le (length a.nodes.now) a.keep.now c.requires.keeps);
         middled = drop_at c.mark.new.centroids (drop (length a.tets.now) a.centroids.now) (length a.tets.now) (c.mark.auto.centroids ∙ length-take-le (length a.tets.now) a.centroids.now c.requires.middled);
         celled = drop_at c.mark.new.cells (drop (length a.tets.now) a.cells.now) (length a.tets.now) (c.mark.auto.cells ∙ length-take-le (length a.tets.now) a.cells.now c.requires.celled);
         orders = drop_at c.mark.new.order (drop (length a.tets.now) a.order.now) (length a.tets.now) (c.mark.auto.order ∙ length-take-le (length a.tets.now) a.order.now c.requires.orders);
         places = drop_at c.mark.new.place (drop (length a.tets.now) a.place.now) (length a.tets.now) (c.mark.auto.place ∙ length-take-le (length a.tets.now) a.place.now c.requires.places);
         firsts = drop_at c.mark.new.first (drop (length a.tets.now + 1) a.first.now) (length a.tets.now + 1) (c.mark.auto.first ∙ length-take-le (length a.tets.now + 1) a.first.now c.requires.firsts);
-      } }
+      };
+    }
