@@ -1,6 +1,5 @@
 -- `update_defined::kept_again` meets its contract: the volume is known, or is reckoned. Assumes nothing.
 use Rattle.update_defined.proofs.kept_again.Goals as goal
-use borrow.Author.Rules.{rules}
 
 pub returns-then-same : goal.returns-then-same
 returns-then-same c = c.requires.kept_value c.if-same.true

@@ -1,7 +1,6 @@
 -- `update_defined::tested` meets its contract by that of `filter_table::well`. Assumes nothing.
 use Rattle.filter_table.proofs.Laws.{well_wf}
 use Rattle.update_defined.proofs.tested.Goals as goal
-use borrow.Author.Rules.{rules}
 use mathlib.Core.Bool.{true≢false}
 use mathlib.Core.Path.{sym, ◌∙◌}
 
