@@ -1,11 +1,10 @@
 -- `region_cells::cells_of` meets its contract. The invariant: the cells of the middles passed are written. Assumes nothing.
-use Prim.Native.Nat.{ℕ, ◌-◌, ◌≤◌}
+use Prim.Native.Nat.{ℕ}
 use Rattle.lent.specs.Points.{point}
 use Rattle.lists.proofs.Laws.{overwrite-none, overwrite-more, overwrite-all}
 use Rattle.lists.specs.Lists.{overwrite}
 use Rattle.region_cells.proofs.cells_of.Goals as goal
 use Rattle.region_cells.specs.Steps.{cell_about}
-use borrow.Author.Rules.{rules}
 use lib.ListN.{length, get_or, set, length-set}
 use mathlib.Core.List.{[], ◌∷◌}
 use mathlib.Core.Path.{◌≡◌, refl, sym, ap, ◌∙◌}

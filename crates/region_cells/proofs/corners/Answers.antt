@@ -1,7 +1,6 @@
 -- `region_cells::corners` meets its contract, corner by corner. Assumes nothing.
 use Rattle.region_cells.proofs.corners.Goals as goal
 use Rattle.region_cells.specs.Depth.{corners_of}
-use borrow.Author.Rules.{rules}
 
 pub returns : goal.returns
 unfolding corners_of

@@ -3,7 +3,6 @@ use Rattle.geom.specs.Vectors.{greatest}
 use Rattle.geom.specs.declared.Vec3.{Vec3}
 use Rattle.region_cells.proofs.high.Goals as goal
 use Rattle.region_cells.specs.Depth.{high_of}
-use borrow.Author.Rules.{rules}
 use mathlib.Core.Path.{ap, ◌∙◌}
 
 pub returns : goal.returns

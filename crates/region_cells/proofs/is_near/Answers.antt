@@ -1,10 +1,8 @@
 -- `region_cells::is_near` meets its contract: what the distance promises, compared. Assumes nothing.
 use Rattle.faces.specs.Triangle.{dist2_to_triangle}
 use Rattle.geom.specs.declared.Vec3.{Vec3}
-use Rattle.lent.specs.Points.{point}
 use Rattle.region_cells.proofs.is_near.Goals as goal
 use Rattle.region_cells.specs.Depth.{at_most}
-use borrow.Author.Rules.{rules}
 use lib.Ieee.{Float, le}
 use mathlib.Core.Path.{ap, ◌∙◌}
 

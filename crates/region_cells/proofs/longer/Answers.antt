@@ -1,9 +1,7 @@
 -- `region_cells::longer` meets its contract: the calls' promises, put one into the other. Assumes nothing.
-use Rattle.geom.specs.Vectors.{dist}
 use Rattle.ieee.specs.Basic.{max_of}
 use Rattle.region_cells.proofs.longer.Goals as goal
 use Rattle.region_cells.specs.Depth.{longer}
-use borrow.Author.Rules.{rules}
 use mathlib.Core.Path.{ap, ◌∙◌}
 
 pub returns : goal.returns

@@ -1,13 +1,9 @@
 -- `region_cells::longest` meets its contract. The invariant: the longest side of the set's triangles passed. Assumes nothing.
-use Prim.Native.Nat.{◌-◌, ◌≤◌}
 use Rattle.lists.proofs.Laws.{fold_to-none, fold_to-more, choose-true, choose-false}
-use Rattle.lists.specs.Lists.{fold_to, choose, zero64}
 use Rattle.region_by_nodes.specs.Nodes.{in_set}
 use Rattle.region_cells.proofs.longest.Goals as goal
-use Rattle.region_cells.specs.Depth.{corners_of, longer, longest_side}
-use lib.ListN.{get_or}
-use mathlib.Core.List.{[]}
-use mathlib.Core.Path.{◌≡◌, sym, ◌∙◌}
+use Rattle.region_cells.specs.Depth.{longer, longest_side}
+use mathlib.Core.Path.{sym, ◌∙◌}
 use native.Mathlib.Nat.{le_antisymm}
 use native.Mathlib.Omega.{arith}
 

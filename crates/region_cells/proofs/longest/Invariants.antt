@@ -1,15 +1,12 @@
 -- `region_cells::longest` meets its contract. The invariant: the longest side of the set's triangles passed. Assumes nothing.
 use Prim.Native.Nat.{◌-◌, ◌≤◌}
-use Rattle.lists.proofs.Laws.{fold_to-none, fold_to-more, choose-true, choose-false}
 use Rattle.lists.specs.Lists.{fold_to, choose, zero64}
 use Rattle.region_by_nodes.specs.Nodes.{in_set}
 use Rattle.region_cells.proofs.longest.Given as goal
-use Rattle.region_cells.specs.Depth.{corners_of, longer, longest_side}
+use Rattle.region_cells.specs.Depth.{corners_of, longer}
 use lib.ListN.{get_or}
 use mathlib.Core.List.{[]}
-use mathlib.Core.Path.{◌≡◌, sym, ◌∙◌}
-use native.Mathlib.Nat.{le_antisymm}
-use native.Mathlib.Omega.{arith}
+use mathlib.Core.Path.{◌≡◌}
 
 abbrev pub invariant-loop-t : goal.invariant-loop-t
 invariant-loop-t l = (l.t ≤ l.n) × (l.m ≡ fold_to (λ i w. choose (in_set l.surfaces l.starts l.kept l.s i) (longer (corners_of l.nodes (get_or l.tris i [])) w) w) zero64 l.t)

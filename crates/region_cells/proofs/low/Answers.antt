@@ -1,10 +1,8 @@
 -- `region_cells::low` meets its contract: the calls' promises, put one into the other. Assumes nothing.
-use Prim.Native.Nat.{min}
 use Rattle.geom.specs.Vectors.{least}
 use Rattle.geom.specs.declared.Vec3.{Vec3}
 use Rattle.region_cells.proofs.low.Goals as goal
 use Rattle.region_cells.specs.Depth.{low_of}
-use borrow.Author.Rules.{rules}
 use mathlib.Core.Path.{ap, ◌∙◌}
 
 pub returns : goal.returns

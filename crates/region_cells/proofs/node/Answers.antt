@@ -3,7 +3,6 @@ use Rattle.lent.specs.Points.{point, stored}
 use Rattle.lists.proofs.Laws.{get_or_any}
 use Rattle.mesh.specs.Mesh.{origin, node_at}
 use Rattle.region_cells.proofs.node.Goals as goal
-use borrow.Author.Rules.{rules}
 use lib.ListN.{get_or, get_or-eq_default}
 use mathlib.Core.List.{[]}
 use mathlib.Core.Path.{◌≡◌, sym, ap, ◌∙◌}
