@@ -4,7 +4,6 @@ use Rattle.oc_seen.specs.Seen.{seen_density}
 use Rattle.oc_seen.specs.declared.Sharpness.TheVariants.{Off, At}
 use Rattle.oc_seen.specs.declared.Sharpness.{Sharpness}
 use Rattle.run_round.proofs.ask.Goals as goal
-use borrow.Author.Rules.{rules}
 use lib.Ieee.{Float}
 use mathlib.Core.Path.{ap, ◌∙◌}
 

@@ -1,7 +1,6 @@
 -- `run_round::move_at` meets its contract: a branch on the test. Assumes nothing.
 use Rattle.lists.proofs.Laws.{choose-true, choose-false}
 use Rattle.run_round.proofs.move_at.Goals as goal
-use borrow.Author.Rules.{rules}
 use lib.Ieee.{Float, binary64, div, of_bits}
 use mathlib.Core.Path.{sym, ap, ◌∙◌}
 

@@ -1,15 +1,10 @@
 -- `run_round::slopes_plain` meets its contract: the places passed are filled. Assumes nothing.
-use Prim.Native.Nat.{◌-◌, ◌≤◌}
-use Rattle.ieee.specs.Basic.{one64}
 use Rattle.lists.proofs.Filled.{stored, filled}
 use Rattle.lists.proofs.Laws.{overwrite-none}
-use Rattle.lists.specs.Lists.{overwrite, choose, zero64}
 use Rattle.run_round.proofs.slopes_plain.Goals as goal
 use Rattle.run_round.specs.Round.{plain_slopes}
 use borrow.Author.Rules.{rules}
-use lib.ListN.{length, get_or}
-use mathlib.Core.Bool.{false}
-use mathlib.Core.Path.{◌≡◌, refl, sym}
+use mathlib.Core.Path.{refl, sym}
 use native.Mathlib.Omega.{arith}
 
 pub loop-i-init : goal.loop-i-init

@@ -1,7 +1,6 @@
 -- `run_round::volume_slopes` meets its contract: a branch on the test. Assumes nothing.
 use Rattle.lists.proofs.Laws.{choose-true, choose-false}
 use Rattle.run_round.proofs.volume_slopes.Goals as goal
-use borrow.Author.Rules.{rules}
 use mathlib.Core.Path.{sym, ◌∙◌}
 
 pub returns-then-sharpen : goal.returns-then-sharpen
