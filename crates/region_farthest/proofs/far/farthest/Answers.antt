@@ -1,5 +1,4 @@
 -- `far::farthest` meets its contract. The loop's invariant: the farthest of the nodes passed. Assumes nothing.
-use Prim.Native.Nat.{◌≤◌, ◌-◌}
 use Rattle.geom.specs.Vectors.{image}
 use Rattle.geom.specs.declared.Vec3.{Vec3}
 use Rattle.ieee.specs.Basic.{max_of}
@@ -13,10 +12,10 @@ use Rattle.region_farthest.specs.Steps.{farthest_in}
 use Rattle.region_nearest.specs.Nearest.{search_in, unfound}
 use Rattle.region_tree.specs.Steps.{tree_in}
 use lib.Ieee.{Float, binary64, mul}
-use lib.ListN.{length, get_or}
+use lib.ListN.{get_or}
 use mathlib.Core.Bool.{false}
 use mathlib.Core.List.{[]}
-use mathlib.Core.Path.{◌≡◌, refl, sym, ap, ◌∙◌}
+use mathlib.Core.Path.{refl, sym, ap, ◌∙◌}
 use native.Mathlib.Nat.{le_antisymm}
 use native.Mathlib.Omega.{arith}
 

@@ -1,7 +1,6 @@
 -- `far::near` meets its contract. Assumes nothing.
 use Rattle.region_farthest.proofs.far.near.Goals as goal
 use Rattle.region_nearest.specs.declared.Found.{Found}
-use borrow.Author.Rules.{rules}
 use lib.Ieee.{div, of_bits}
 use mathlib.Core.Path.{ap}
 use native.Mathlib.Omega.{arith}

@@ -1,12 +1,12 @@
 -- `fill::clear` meets its contract. The loop's invariant: the places passed are cleared. Assumes nothing.
-use Prim.Native.Nat.{ℕ, ◌≤◌, ◌-◌}
+use Prim.Native.Nat.{ℕ}
 use Rattle.lists.proofs.Laws.{overwrite-none, overwrite-more}
 use Rattle.lists.specs.Lists.{overwrite}
 use Rattle.region_farthest.proofs.Filled.{fill-all}
 use Rattle.region_farthest.proofs.fill.clear.Goals as goal
-use lib.ListN.{length, set, length-set}
+use lib.ListN.{set, length-set}
 use mathlib.Core.Bool.{Bool, false}
-use mathlib.Core.Path.{◌≡◌, refl, sym, ap, ◌∙◌}
+use mathlib.Core.Path.{refl, sym, ap, ◌∙◌}
 use native.Mathlib.Nat.{le_antisymm}
 use native.Mathlib.Omega.{arith}
 

@@ -1,13 +1,13 @@
 -- `fill::gather` meets its contract. The loop's invariant: the triangles passed are gathered. Assumes nothing.
-use Prim.Native.Nat.{ℕ, ◌≤◌, ◌-◌}
+use Prim.Native.Nat.{ℕ}
 use Rattle.lists.proofs.Laws.{overwrite-none, overwrite-more}
 use Rattle.lists.specs.Lists.{overwrite}
 use Rattle.region_farthest.proofs.Filled.{fill-map}
 use Rattle.region_farthest.proofs.fill.gather.Goals as goal
 use Rattle.region_farthest.specs.Farthest.{nine_of, faces_of}
-use lib.ListN.{length, get_or, set, length-set}
+use lib.ListN.{get_or, set, length-set}
 use mathlib.Core.List.{[]}
-use mathlib.Core.Path.{◌≡◌, refl, sym, ap, ◌∙◌}
+use mathlib.Core.Path.{refl, sym, ap, ◌∙◌}
 use native.Mathlib.Nat.{le_antisymm}
 use native.Mathlib.Omega.{arith}
 

@@ -1,15 +1,11 @@
 -- `fill::gather` meets its contract. The loop's invariant: the triangles passed are gathered. Assumes nothing.
-use Prim.Native.Nat.{ℕ, ◌≤◌, ◌-◌}
-use Rattle.lists.proofs.Laws.{overwrite-none, overwrite-more}
+use Prim.Native.Nat.{◌≤◌, ◌-◌}
 use Rattle.lists.specs.Lists.{overwrite}
-use Rattle.region_farthest.proofs.Filled.{fill-map}
 use Rattle.region_farthest.proofs.fill.gather.Given as goal
-use Rattle.region_farthest.specs.Farthest.{nine_of, faces_of}
-use lib.ListN.{length, get_or, set, length-set}
+use Rattle.region_farthest.specs.Farthest.{nine_of}
+use lib.ListN.{length, get_or}
 use mathlib.Core.List.{[]}
-use mathlib.Core.Path.{◌≡◌, refl, sym, ap, ◌∙◌}
-use native.Mathlib.Nat.{le_antisymm}
-use native.Mathlib.Omega.{arith}
+use mathlib.Core.Path.{◌≡◌}
 
 abbrev pub invariant-loop-i : goal.invariant-loop-i
 invariant-loop-i l = (l.i ≤ length l.tris) × (length l.faces ≡ length l.initial.faces) × (l.faces ≡ overwrite (λ k. nine_of l.nodes (get_or l.tris k [])) l.i l.initial.faces)

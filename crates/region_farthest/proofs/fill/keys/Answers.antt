@@ -1,5 +1,5 @@
 -- `fill::keys` meets its contract. The loop's invariant: the triangles passed have their keys. Assumes nothing.
-use Prim.Native.Nat.{ℕ, ◌≤◌, ◌-◌}
+use Prim.Native.Nat.{ℕ}
 use Rattle.ieee_bits.specs.Bits.{total_key}
 use Rattle.lists.proofs.Laws.{overwrite-none, overwrite-more}
 use Rattle.lists.specs.Lists.{overwrite}

@@ -1,17 +1,12 @@
 -- `fill::keys` meets its contract. The loop's invariant: the triangles passed have their keys. Assumes nothing.
-use Prim.Native.Nat.{ℕ, ◌≤◌, ◌-◌}
+use Prim.Native.Nat.{◌≤◌, ◌-◌}
 use Rattle.ieee_bits.specs.Bits.{total_key}
-use Rattle.lists.proofs.Laws.{overwrite-none, overwrite-more}
 use Rattle.lists.specs.Lists.{overwrite}
-use Rattle.region_farthest.proofs.Filled.{fill-map}
 use Rattle.region_farthest.proofs.fill.keys.Given as goal
-use Rattle.region_tree.specs.Tree.{corners_of, middle_of, coordinate, keys_along}
-use lib.Ieee.{Float}
-use lib.ListN.{length, get_or, set, length-set}
-use mathlib.Core.List.{List, []}
-use mathlib.Core.Path.{◌≡◌, refl, sym, ap, ◌∙◌}
-use native.Mathlib.Nat.{le_antisymm}
-use native.Mathlib.Omega.{arith}
+use Rattle.region_tree.specs.Tree.{corners_of, middle_of, coordinate}
+use lib.ListN.{length, get_or}
+use mathlib.Core.List.{[]}
+use mathlib.Core.Path.{◌≡◌}
 
 abbrev pub invariant-loop-i : goal.invariant-loop-i
 invariant-loop-i l = (l.i ≤ length l.faces) × (length l.kx ≡ length l.initial.kx) × (length l.ky ≡ length l.initial.ky) × (length l.kz ≡ length l.initial.kz) × (l.kx ≡ overwrite (λ k. total_key (coordinate 0 (middle_of (corners_of (get_or l.faces k []))))) l.i l.initial.kx) × (l.ky ≡ overwrite (λ k. total_key (coordinate 1 (middle_of (corners_of (get_or l.faces k []))))) l.i l.initial.ky) × (l.kz ≡ overwrite (λ k. total_key (coordinate 2 (middle_of (corners_of (get_or l.faces k []))))) l.i l.initial.kz)

@@ -1,5 +1,5 @@
 -- `fill::mark` meets its contract. The loop's invariant: the corners of the triangles passed are marked. Assumes nothing.
-use Prim.Native.Nat.{ℕ, ◌≤◌, ◌-◌}
+use Prim.Native.Nat.{ℕ}
 use Rattle.lists.proofs.Laws.{any_step}
 use Rattle.lists.specs.Lists.{tabulate, any_to}
 use Rattle.region_farthest.proofs.Filled.{three-marks}
@@ -8,7 +8,7 @@ use Rattle.region_farthest.specs.Farthest.{corner_of, is_corner}
 use lib.ListN.{length, get_or, set}
 use mathlib.Core.Bool.{Bool, true}
 use mathlib.Core.List.{List, []}
-use mathlib.Core.Path.{◌≡◌, refl, ap, ◌∙◌}
+use mathlib.Core.Path.{refl, ap, ◌∙◌}
 use native.Mathlib.Nat.{le_antisymm}
 use native.Mathlib.Omega.{arith}
 

@@ -3,7 +3,6 @@ use Rattle.geom.specs.Vectors.{plus, scaled}
 use Rattle.geom.specs.declared.Vec3.{Vec3}
 use Rattle.region_farthest.proofs.fill.middle.Goals as goal
 use Rattle.region_tree.specs.Tree.{third64, middle_of}
-use borrow.Author.Rules.{rules}
 use mathlib.Core.Path.{ap, ◌∙◌}
 
 pub returns : goal.returns

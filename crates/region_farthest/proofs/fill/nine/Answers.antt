@@ -1,7 +1,6 @@
 -- `fill::nine` meets its contract. Assumes nothing.
 use Rattle.region_farthest.proofs.fill.nine.Goals as goal
 use Rattle.region_farthest.specs.Farthest.{nine_of}
-use borrow.Author.Rules.{rules}
 use mathlib.Core.List.{[], ◌∷◌}
 
 pub returns : goal.returns

@@ -1,7 +1,6 @@
 -- `fill::node` meets its contract. Assumes nothing.
 use Rattle.lent.specs.Points.{point}
 use Rattle.region_farthest.proofs.fill.node.Goals as goal
-use borrow.Author.Rules.{rules}
 use lib.Ieee.{div, of_bits}
 use lib.ListN.{get_or-eq_default}
 use mathlib.Core.List.{[]}

@@ -1,13 +1,9 @@
 -- `fill::number` meets its contract. The loop's invariant: the places passed hold their numbers. Assumes nothing.
-use Prim.Native.Nat.{ℕ, ◌≤◌, ◌-◌}
-use Rattle.lists.proofs.Laws.{overwrite-none, overwrite-more}
+use Prim.Native.Nat.{◌≤◌, ◌-◌}
 use Rattle.lists.specs.Lists.{overwrite}
-use Rattle.region_farthest.proofs.Filled.{fill-all}
 use Rattle.region_farthest.proofs.fill.number.Given as goal
-use lib.ListN.{length, set, length-set}
-use mathlib.Core.Path.{◌≡◌, refl, sym, ap, ◌∙◌}
-use native.Mathlib.Nat.{le_antisymm}
-use native.Mathlib.Omega.{arith}
+use lib.ListN.{length}
+use mathlib.Core.Path.{◌≡◌}
 
 abbrev pub invariant-loop-i : goal.invariant-loop-i
 invariant-loop-i l = (l.i ≤ length l.initial.order) × (length l.order ≡ length l.initial.order) × (l.order ≡ overwrite (λ k. k) l.i l.initial.order)

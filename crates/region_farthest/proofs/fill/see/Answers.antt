@@ -1,6 +1,5 @@
 -- `fill::see` meets its contract. Assumes nothing.
 use Rattle.region_farthest.proofs.fill.see.Goals as goal
-use borrow.Author.Rules.{rules}
 use lib.Seq.{set_out}
 use mathlib.Core.Bool.{true}
 use mathlib.Core.Path.{sym}

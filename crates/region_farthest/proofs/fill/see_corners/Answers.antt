@@ -1,6 +1,5 @@
 -- `fill::see_corners` meets its contract. Assumes nothing.
 use Rattle.region_farthest.proofs.fill.see_corners.Goals as goal
-use borrow.Author.Rules.{rules}
 use lib.ListN.{get_or, set}
 use mathlib.Core.Bool.{Bool, true}
 use mathlib.Core.List.{List}
