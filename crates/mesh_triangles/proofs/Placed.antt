@@ -1,7 +1,7 @@
 -- What the code has stored is the list of the triangles. Kept by each face, and so by a tetrahedron's four. Assumes nothing.
 use mathlib.Core.Path.{◌≡◌, refl, sym, ap, ◌∙◌, subst}
 use mathlib.Core.Bool.{Bool, true, false}
-use mathlib.Core.List.{List, [], ◌∷◌, ◌++◌, append_nil}
+use mathlib.Core.List.{List, [], ◌∷◌, ◌++◌, append-nil}
 use Prim.Native.Nat.{ℕ, ◌+◌, ◌≤◌}
 use native.Mathlib.Omega.{arith}
 use native.Mathlib.Nat.{min_comm, max_comm}
@@ -63,7 +63,7 @@ module _ (surfaces : List ℕ) (tris : List (List ℕ)) where
   one_placed l p s n h = go (eqb s 0)
     where
       go : (t : Bool) → Placed surfaces tris (l ++ choose t [] ((s, n) ∷ [])) (choose t p (record { surfaces = set p.surfaces p.next s; tris = set p.tris p.next n; next = p.next + 1 }))
-      go true = subst (λ (m : List Triangle). Placed surfaces tris m p) (sym (append_nil l)) h
+      go true = subst (λ (m : List Triangle). Placed surfaces tris m p) (sym (append-nil l)) h
       go false =
           record {
             next-is = ap (λ (k : ℕ). k + 1) h.next-is ∙ sym (length-append l ((s, n) ∷ []));

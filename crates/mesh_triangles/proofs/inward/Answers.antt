@@ -2,7 +2,6 @@
 use Rattle.geom.specs.Vectors.{less, dot, cross}
 use Rattle.lists.specs.Lists.{zero64}
 use Rattle.mesh_triangles.proofs.inward.Goals as goal
-use borrow.Author.Rules.{rules}
 use lib.Ieee.{lt}
 use mathlib.Core.Path.{ap, ◌∙◌}
 

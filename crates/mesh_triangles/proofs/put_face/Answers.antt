@@ -3,7 +3,6 @@ use Prim.Native.Nat.{ℕ, ◌+◌}
 use Rattle.lists.proofs.Laws.{choose-true, choose-false}
 use Rattle.mesh_triangles.proofs.put_face.Goals as goal
 use Rattle.mesh_triangles.specs.Steps.{wound_by, placed}
-use borrow.Author.Rules.{rules}
 use borrow.Author.Tests.{eq-eqb, ne_eqb}
 use lib.ListN.{set}
 use mathlib.Core.Bool.{Bool}

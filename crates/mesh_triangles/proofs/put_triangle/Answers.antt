@@ -1,6 +1,5 @@
 -- `mesh_triangles::put_triangle` meets its contract: a store past the end changes nothing. Assumes nothing.
 use Rattle.mesh_triangles.proofs.put_triangle.Goals as goal
-use borrow.Author.Rules.{rules}
 use lib.Seq.{set_out}
 use mathlib.Core.Path.{sym}
 

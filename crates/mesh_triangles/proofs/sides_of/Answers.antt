@@ -3,7 +3,6 @@ use Rattle.mesh_lattice.specs.Lattice.{place_of}
 use Rattle.mesh_triangles.proofs.sides_of.Goals as goal
 use Rattle.mesh_triangles.specs.Steps.{touch_of, side_by}
 use Rattle.mesh_triangles.specs.Triangles.{side_of}
-use borrow.Author.Rules.{rules}
 use mathlib.Core.Path.{◌≡◌, ap, ◌∙◌}
 
 pub returns : goal.returns

@@ -1,7 +1,6 @@
 -- `mesh_triangles::touching` meets its contract: each distance by what `abs` promises. Assumes nothing.
 use Rattle.mesh_triangles.proofs.touching.Goals as goal
 use Rattle.mesh_triangles.specs.Triangles.{slack}
-use borrow.Author.Rules.{rules}
 use lib.Ieee.{le}
 
 pub returns : goal.returns

@@ -1,5 +1,5 @@
 -- `mesh_triangles::triangles` meets its contract. The loop's invariant: the triangles of the tetrahedra passed are stored (`Placed`). Assumes nothing.
-use Prim.Native.Nat.{ℕ, ◌+◌, ◌≤◌, ◌<◌, ◌-◌}
+use Prim.Native.Nat.{ℕ, ◌+◌, ◌≤◌, ◌<◌}
 use Rattle.lists.proofs.Laws.{get_or-overwrite-below}
 use Rattle.lists.specs.Lists.{fold_to}
 use Rattle.mesh_lattice.proofs.Ways.{four-inside}
@@ -14,33 +14,33 @@ use mathlib.Core.List.{List, []}
 use mathlib.Core.Path.{◌≡◌, ap, sym, ◌∙◌, subst}
 use native.Mathlib.Omega.{arith}
 
-pub tet_count-n-requires : goal.tet_count-n-requires
-tet_count-n-requires c = c.requires.small
-
 pub loop-e-init : goal.loop-e-init
 unfolding triangles_to fold_to
 loop-e-init c = (omega arith, placed-none _ _)
 
 pub corners-requires : goal.corners-requires
-corners-requires c = (c.requires.small, (let h : c.loop-e.e < tets_in c.args.g = omega (arith, c.tet_count-n.ensures) in h))
+corners-requires c = (c.requires.small, omega (arith, c.tet_count-n.ensures))
 
 pub offset_bounds-tets-e : goal.offset_bounds-tets-e
-offset_bounds-tets-e c = omega (arith, (let h : c.loop-e.e < tets_in c.args.g = omega (arith, c.tet_count-n.ensures) in h), c.requires.small.few)
+offset_bounds-tets-e c = omega (arith, c.tet_count-n.ensures, c.requires.small.few)
 
 pub bounds-tets-e : goal.bounds-tets-e
-bounds-tets-e c = omega (arith, (let h : c.loop-e.e < tets_in c.args.g = omega (arith, c.tet_count-n.ensures) in h), c.requires.places)
+bounds-tets-e c = omega (arith, c.tet_count-n.ensures, c.requires.places)
 
 pub put_faces-at-requires : goal.put_faces-at-requires
-put_faces-at-requires c = ((c.requires.small, subst (InsideAll c.args.g) (sym c.corners.ensures) (four-inside _ _ c.requires.small ((let h : c.loop-e.e < tets_in c.args.g = omega (arith, c.tet_count-n.ensures) in h)))), (let h : c.loop-e.at + 4 ≤ 4000000000 = omega (arith, c.loop-e.invariant.1.next-is, triangles-few c.args.g c.loop-e.e, (let h : c.loop-e.e < tets_in c.args.g = omega (arith, c.tet_count-n.ensures) in h), c.requires.small.few) in h))
-
-pub overflow_add-e : goal.overflow_add-e
-overflow_add-e c = omega arith
-
-pub loop-e-smaller : goal.loop-e-smaller
-loop-e-smaller c = omega arith
+put_faces-at-requires c =
+    let here : c.loop-e.e < tets_in c.args.g = omega (arith, c.tet_count-n.ensures) in
+    let room : c.loop-e.at + 4 ≤ 4000000000 = omega (arith, c.loop-e.invariant.1.next-is, triangles-few c.args.g c.loop-e.e, here, c.requires.small.few) in
+    ((c.requires.small, subst (InsideAll c.args.g) (sym c.corners.ensures) (four-inside _ _ c.requires.small here)), room)
 
 pub loop-e-preserved : goal.loop-e-preserved
-loop-e-preserved c = (omega arith, turn-placed _ _ _ _ _ _ _ _ c.corners.ensures ((let h : get_or c.args.tets.now c.loop-e.e [] ≡ tet_of c.args.g c.loop-e.e = let e = c.loop-e.e in let l = c.args.tets.now in ap (λ (t : List (List ℕ)). get_or t e []) c.requires.tets-are ∙ get_or-overwrite-below (tet_of c.args.g) (tets_in c.args.g) l e [] ((let h : c.loop-e.e < tets_in c.args.g = omega (arith, c.tet_count-n.ensures) in h)) (omega (arith, (let h : c.loop-e.e < tets_in c.args.g = omega (arith, c.tet_count-n.ensures) in h), c.requires.places)) in h)) c.put_faces-at.ensures.placing c.loop-e.invariant.1)
+loop-e-preserved c =
+    let e = c.loop-e.e in
+    let tets = c.args.tets.now in
+    let here : e < tets_in c.args.g = omega (arith, c.tet_count-n.ensures) in
+    let is_tet : get_or tets e [] ≡ tet_of c.args.g e =
+    ap (λ (t : List (List ℕ)). get_or t e []) c.requires.tets-are ∙ get_or-overwrite-below (tet_of c.args.g) (tets_in c.args.g) tets e [] here (omega (arith, here, c.requires.places)) in
+    (omega arith, turn-placed _ _ _ _ _ _ _ _ c.corners.ensures is_tet c.put_faces-at.ensures.placing c.loop-e.invariant.1)
 
 pub shape_of-surfaces : goal.shape_of-surfaces
 shape_of-surfaces c = surfaces-long _ _ _ _ c.loop-e.invariant.1
@@ -49,6 +49,7 @@ pub shape_of-tris : goal.shape_of-tris
 shape_of-tris c = tris-long _ _ _ _ c.loop-e.invariant.1
 
 pub returns : goal.returns
-returns c = let all : c.loop-e.e ≡ tets_in c.args.g = omega (arith, c.tet_count-n.ensures, c.loop-e.invariant.0, c.loop-e-test.false) in
+returns c =
+    let all : c.loop-e.e ≡ tets_in c.args.g = omega (arith, c.tet_count-n.ensures, c.loop-e.invariant.0, c.loop-e-test.false) in
     let h = subst (λ (n : ℕ). Placed c.args.surfaces.now c.args.tris.now (triangles_to c.args.g n) (record { surfaces = c.loop-e.surfaces; tris = c.loop-e.tris; next = c.loop-e.at })) all c.loop-e.invariant.1 in
     record { next-is = h.next-is; surfaces-are = h.surfaces-are; tris-are = h.tris-are }

@@ -2,7 +2,6 @@
 use Rattle.lists.proofs.Laws.{choose-true, choose-false}
 use Rattle.mesh_triangles.proofs.wound.Goals as goal
 use Rattle.mesh_triangles.specs.Steps.{wound_by}
-use borrow.Author.Rules.{rules}
 use mathlib.Core.Path.{sym}
 
 pub returns-then-flip : goal.returns-then-flip
