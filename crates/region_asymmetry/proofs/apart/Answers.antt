@@ -4,7 +4,6 @@ use Rattle.region_asymmetry.proofs.apart.Goals as goal
 use Rattle.region_farthest.proofs.Farthest.{far-is}
 use Rattle.region_farthest.specs.Farthest.{faces_of, is_corner, whole_tree}
 use Rattle.region_tree.specs.Tree.{tree_of}
-use borrow.Author.Rules.{rules}
 use lib.ListN.{length}
 use mathlib.Core.Bool.{false}
 use mathlib.Core.Path.{◌≡◌, sym, ap, ◌∙◌}

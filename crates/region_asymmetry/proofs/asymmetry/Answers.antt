@@ -6,7 +6,6 @@ use Rattle.region_asymmetry.proofs.asymmetry.Goals as goal
 use Rattle.region_asymmetry.specs.Asymmetry.{lent, too_short}
 use Rattle.region_asymmetry.specs.declared.Distance.TheVariants.{Refused, Apart}
 use Rattle.region_farthest.proofs.Farthest.{none_apart}
-use borrow.Author.Rules.{rules}
 use lib.ListN.{length}
 use lib.Seq.{length-take-le}
 use mathlib.Core.Path.{sym, ap, ◌∙◌}

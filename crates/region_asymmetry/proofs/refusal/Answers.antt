@@ -3,7 +3,6 @@ use Rattle.lists.specs.Lists.{choose}
 use Rattle.region_asymmetry.proofs.refusal.Goals as goal
 use Rattle.region_asymmetry.specs.Asymmetry.{refusal_of}
 use Rattle.region_checks.specs.Boundary as Boundary
-use borrow.Author.Rules.{rules}
 use mathlib.Core.Path.{ap, ◌∙◌}
 
 pub returns : goal.returns
