@@ -2,7 +2,7 @@
 use Rattle.lists.proofs.Bools.{at-most-zero}
 use Rattle.region_passive.proofs.Fits.{refusal_is, roomy, refused, accepted}
 use Rattle.region_passive.proofs.passive.Goals as goal
-use Rattle.region_passive.specs.Passive.{Problem, Lent, refusal_of}
+use Rattle.region_passive.specs.Passive.{refusal_of}
 use mathlib.Core.Path.{◌≡◌, sym, ◌∙◌}
 
 pub too_short-short-requires : goal.too_short-short-requires

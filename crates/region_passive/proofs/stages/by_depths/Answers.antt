@@ -1,15 +1,13 @@
 -- `region_passive::stages::by_depths` meets its contract. The invariant: what the sets passed reach is marked. Assumes nothing.
-use Prim.Native.Nat.{ℕ, ◌-◌, ◌≤◌}
+use Prim.Native.Nat.{ℕ}
 use Rattle.lent.specs.Domain.{is_depth}
 use Rattle.lists.proofs.Laws.{choose-true, choose-false}
 use Rattle.region_passive.proofs.Solid.{deepened-none, deepened-more}
 use Rattle.region_passive.proofs.stages.by_depths.Goals as goal
 use Rattle.region_passive.proofs.stages.by_depths.Invariants.{sets_of}
-use Rattle.region_passive.specs.Passive.{Problem}
 use Rattle.region_passive.specs.Steps.{deepened, deepened_to}
-use lib.Ieee.{Float, nan}
-use lib.ListN.{length, get_or}
-use mathlib.Core.List.{List, []}
+use lib.Ieee.{nan}
+use lib.ListN.{get_or}
 use mathlib.Core.Path.{◌≡◌, refl, sym, ap, ◌∙◌}
 use native.Mathlib.Nat.{le_antisymm}
 use native.Mathlib.Omega.{arith}

@@ -1,5 +1,5 @@
 -- `region_passive::stages::centroids_of` meets its contract. The invariant: the middles of the elements passed are written. Assumes nothing.
-use Prim.Native.Nat.{ℕ, ◌-◌, ◌≤◌}
+use Prim.Native.Nat.{ℕ}
 use Rattle.lent.specs.Points.{stored}
 use Rattle.lists.proofs.Laws.{overwrite-none, overwrite-more, overwrite-all}
 use Rattle.lists.specs.Lists.{overwrite}
@@ -7,7 +7,7 @@ use Rattle.mesh.specs.Mesh.{centroid_of}
 use Rattle.region_passive.proofs.stages.centroids_of.Goals as goal
 use lib.ListN.{length, get_or, set, length-set}
 use mathlib.Core.List.{[]}
-use mathlib.Core.Path.{◌≡◌, refl, sym, ap, ◌∙◌}
+use mathlib.Core.Path.{refl, sym, ap, ◌∙◌}
 use native.Mathlib.Nat.{le_antisymm}
 use native.Mathlib.Omega.{arith}
 

@@ -12,11 +12,10 @@ use mathlib.Core.Path.{◌≡◌, sym, ap, ◌∙◌}
 use native.Mathlib.Omega.{arith}
 
 -- by nodes, of as many nodes as there are flags
-by_node_lem : (s : tie.Start) (w : List Bool) → let a = s.args in
-    w ≡ tabulate (λ e. by_nodes a.tris.now a.surfaces.now a.starts.now a.kept.now a.held.now a.loaded.now (length a.depths.now) (length a.keep.now) (get_or a.tets.now e [])) (length a.tets.now)
-    → w ≡ tabulate (λ e. by_nodes a.tris.now a.surfaces.now a.starts.now a.kept.now a.held.now a.loaded.now (length a.depths.now) (length a.nodes.now) (get_or a.tets.now e [])) (length a.tets.now)
-by_node_lem s w e = let a = s.args in
-    e ∙ ap (λ (k : ℕ). tabulate (λ i. by_nodes a.tris.now a.surfaces.now a.starts.now a.kept.now a.held.now a.loaded.now (length a.depths.now) k (get_or a.tets.now i [])) (length a.tets.now)) s.requires.keeps
+by_node_lem : (q : Problem) (w : List Bool) (m : ℕ) → m ≡ length q.nodes
+    → w ≡ tabulate (λ e. by_nodes q.tris q.surfaces q.starts q.kept q.held q.loaded (length q.depths) m (get_or q.tets e [])) (length q.tets)
+    → w ≡ tabulate (λ e. by_nodes q.tris q.surfaces q.starts q.kept q.held q.loaded (length q.depths) (length q.nodes) (get_or q.tets e [])) (length q.tets)
+by_node_lem q w m n e = e ∙ ap (λ (k : ℕ). tabulate (λ i. by_nodes q.tris q.surfaces q.starts q.kept q.held q.loaded (length q.depths) k (get_or q.tets i [])) (length q.tets)) n
 
 pub by_nodes-requires : goal.by_nodes-requires
 by_nodes-requires c = (c.requires.surfaced, c.requires.begun, c.requires.marked)
@@ -28,8 +27,10 @@ pub shape_of-keep-then-tets-lt1 : goal.shape_of-keep-then-tets-lt1
 shape_of-keep-then-tets-lt1 c = c.by_nodes.auto.keep
 
 pub returns-then-tets-lt1 : goal.returns-then-tets-lt1
-returns-then-tets-lt1 c = let w = c.by_nodes.new.marks in
-    solid-none ((let a = c.args in record { nodes = a.nodes.now; tets = a.tets.now; tris = a.tris.now; surfaces = a.surfaces.now; held = a.held.now; loaded = a.loaded.now; starts = a.starts.now; kept = a.kept.now; depths = a.depths.now })) w (omega (arith, c.if-tets-lt1.true)) (by_node_lem c.before.before.before.before.before.before.before.before.before.before.before.before.before.before.before.before.before.before.before w c.by_nodes.ensures)
+returns-then-tets-lt1 c =
+    let a = c.args in let q : Problem = record { nodes = a.nodes.now; tets = a.tets.now; tris = a.tris.now; surfaces = a.surfaces.now; held = a.held.now; loaded = a.loaded.now; starts = a.starts.now; kept = a.kept.now; depths = a.depths.now } in
+    let w = c.by_nodes.new.marks in
+    solid-none q w (omega (arith, c.if-tets-lt1.true)) (by_node_lem q w _ c.requires.keeps c.by_nodes.ensures)
 
 pub centroids_of-requires : goal.centroids_of-requires
 centroids_of-requires c = c.requires.middled
@@ -70,6 +71,8 @@ pub shape_of-first : goal.shape_of-first
 shape_of-first c = c.by_depths.auto.first
 
 pub returns : goal.returns
-returns c = let w = c.by_nodes.new.marks in
-    solid ((let a = c.args in record { nodes = a.nodes.now; tets = a.tets.now; tris = a.tris.now; surfaces = a.surfaces.now; held = a.held.now; loaded = a.loaded.now; starts = a.starts.now; kept = a.kept.now; depths = a.depths.now })) w c.by_depths.new.marks c.centroids_of.new.centroids (by_node_lem c.before.before.before.before.before.before.before.before.before.before.before.before.before.before.before.before.before.before.before.before.before.before.before.before.before.before.before.before.before.before.before.before.before.before.before.before.before.before w c.by_nodes.ensures) c.centroids_of.ensures
-    (c.by_depths.ensures ∙ sets-only ((let a = c.args in record { nodes = a.nodes.now; tets = a.tets.now; tris = a.tris.now; surfaces = a.surfaces.now; held = a.held.now; loaded = a.loaded.now; starts = a.starts.now; kept = a.kept.now; depths = a.depths.now })) c.centroids_of.new.centroids (length c.args.depths.now) w)
+returns c =
+    let a = c.args in let q : Problem = record { nodes = a.nodes.now; tets = a.tets.now; tris = a.tris.now; surfaces = a.surfaces.now; held = a.held.now; loaded = a.loaded.now; starts = a.starts.now; kept = a.kept.now; depths = a.depths.now } in
+    let w = c.by_nodes.new.marks in
+    solid q w c.by_depths.new.marks c.centroids_of.new.centroids (by_node_lem q w _ c.requires.keeps c.by_nodes.ensures) c.centroids_of.ensures
+    (c.by_depths.ensures ∙ sets-only q c.centroids_of.new.centroids (length c.args.depths.now) w)

@@ -2,8 +2,6 @@
 use Prim.Native.Nat.{◌+◌}
 use Rattle.region_passive.proofs.Solid.{solid-front}
 use Rattle.region_passive.proofs.stages.mark_front.Goals as goal
-use Rattle.region_passive.specs.Passive.{Problem}
-use borrow.Author.Rules.{rules}
 use lib.ListN.{length, drop}
 use lib.Seq.{length-take-le, length_front, drop_at}
 use mathlib.Core.Path.{sym, ◌∙◌}
