@@ -5,7 +5,6 @@ use Rattle.update.proofs.Ends.{done, gain-is}
 use Rattle.update.proofs.update.Goals as goal
 use Rattle.update_rates.specs.Rates.{Given, given, first_rate}
 use Rattle.update_value.specs.Value.{ten_thousand}
-use borrow.Author.Rules.{rules}
 use lib.Ieee.{Float, lt, binary64, mul}
 use mathlib.Core.List.{List}
 use mathlib.Core.Path.{refl, ap, ◌∙◌}
@@ -16,7 +15,7 @@ rated most = choose (lt zero64 most) (mul binary64 ten_thousand most) one64
 
 pub fast-at-requires : goal.fast-at-requires
 unfolding first_rate
-fast-at-requires c = ((c.gains.auto.gain ∙ c.requires.4, c.requires.1, c.requires.2, c.requires.3, c.requires.5), c.first_rate-first.ensures ∙ ap rated c.most.ensures)
+fast-at-requires c = (refl, ((c.gains.auto.gain ∙ c.requires.4, c.requires.1, c.requires.2, c.requires.3, c.requires.5), c.first_rate-first.ensures ∙ ap rated c.most.ensures))
 
 pub shape_of-design-then-passes-gt0 : goal.shape_of-design-then-passes-gt0
 shape_of-design-then-passes-gt0 c = c.fast-at.auto.design
@@ -35,8 +34,9 @@ returns-then-passes-gt0 c = let a = c.args in
 
 pub every-at-requires : goal.every-at-requires
 unfolding first_rate
-every-at-requires c = let q = c.fast-at.auto.1.1.1.1.1.1.1.1.1.1.1.1.1 in
-    ((c.gains.auto.gain ∙ c.requires.4, c.requires.1, c.requires.2, q.0 ∙ c.requires.3, q.1.0 ∙ c.requires.5), c.first_rate-first.ensures ∙ ap rated c.most.ensures)
+every-at-requires c =
+    let q = c.fast-at.auto in
+    (refl, ((c.gains.auto.gain ∙ c.requires.4, c.requires.1, c.requires.2, q.design ∙ c.requires.3, q.work ∙ c.requires.5), c.first_rate-first.ensures ∙ ap rated c.most.ensures))
 
 pub shape_of-design : goal.shape_of-design
 shape_of-design c = c.every-at.auto.design ∙ c.fast-at.auto.design
