@@ -2,7 +2,6 @@
 use Rattle.mesh_block.proofs.crowded.Goals as goal
 use Rattle.mesh_lattice.proofs.Numbers.{x-most, y-most, z-most, two-fit, three-fit}
 use Rattle.mesh_lattice.specs.Lattice.{tets_in}
-use borrow.Author.Rules.{rules}
 use borrow.Author.Tests.{lt-ltb}
 use mathlib.Core.Path.{sym}
 use native.Mathlib.Omega.{arith}

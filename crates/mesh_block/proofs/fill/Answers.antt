@@ -5,12 +5,13 @@ use Rattle.lists.proofs.Bools.{at-most-zero}
 use Rattle.lists.proofs.Laws.{length-overwrite}
 use Rattle.mesh_block.proofs.Refusals.{Accepted, accepted}
 use Rattle.mesh_block.proofs.fill.Goals as goal
+use Rattle.mesh_block.specs.Block.{refusal_of}
 use Rattle.mesh_lattice.proofs.Edges.{edges_few}
 use Rattle.mesh_lattice.proofs.Lists.{overwrite-again}
 use Rattle.mesh_lattice.proofs.Numbers.{small_of, corners-most}
-use Rattle.mesh_lattice.specs.Bounds.{Small}
+use Rattle.mesh_lattice.specs.Bounds.{Positive, Small}
 use Rattle.mesh_lattice.specs.Lattice.{tets_in, tet_of}
-use borrow.Author.Rules.{rules}
+use Rattle.mesh_lattice.specs.declared.Grid.{Grid}
 use lib.ListN.{length}
 use mathlib.Core.Path.{◌≡◌, refl, sym, ap, ◌∙◌}
 use native.Mathlib.Nat.{le_trans}
@@ -20,16 +21,16 @@ positive : (r : ℕ) → 0 < r → r ≡ 0 → ⊥
 positive r h z = omega arith
 
 -- where nothing is refused
-module _ (c : tie.Else1) where
-  ok : Accepted c.before.before.before.before.args.g (length c.before.before.before.before.args.nodes.now) (length c.before.before.before.before.args.tets.now) (length c.before.before.before.before.args.surfaces.now) (length c.before.before.before.before.args.tris.now) (length c.before.before.before.before.args.edges.now)
-  ok = accepted _ _ _ _ _ _ (sym c.before.refusal.ensures ∙ at-most-zero _ c.if1.false)
+module _ (g : Grid) (n t s r w x : ℕ) (some : Positive g) (is : x ≡ refusal_of g n t s r w) (none : x ≤ 0) where
+  ok : Accepted g n t s r w
+  ok = accepted g n t s r w (sym is ∙ at-most-zero x none)
 
-  -- where nothing is refused
-  small : Small c.before.before.before.before.args.g
-  small = small_of _ c.before.before.before.before.requires ok.few-tets
+  small : Small g
+  small = small_of g some ok.few-tets
 
 pub returns-then-r-gt0 : goal.returns-then-r-gt0
-returns-then-r-gt0 c = let no = positive c.refusal-r.result c.if-r-gt0.true in
+returns-then-r-gt0 c =
+    let no = positive c.refusal-r.result c.if-r-gt0.true in
     record {
       refusal = c.refusal-r.ensures;
       node-count = unless-refused _ _ _ no;
@@ -43,29 +44,39 @@ returns-then-r-gt0 c = let no = positive c.refusal-r.result c.if-r-gt0.true in
     }
 
 pub build-n-requires : goal.build-n-requires
-build-n-requires c = let o = ok c.before.before.before in
-    record { small = small c.before.before.before; fit = le_trans (corners-most c.args.g) o.nodes; places = o.tets; room = o.edges }
+build-n-requires c =
+    let o = ok _ _ _ _ _ _ _ c.requires c.refusal-r.ensures c.if-r-gt0.false in
+    record { small = small _ _ _ _ _ _ _ c.requires c.refusal-r.ensures c.if-r-gt0.false; fit = le_trans (corners-most c.args.g) o.nodes; places = o.tets; room = o.edges }
 
 pub triangles-t-requires : goal.triangles-t-requires
-triangles-t-requires c = let g = c.args.g in
+triangles-t-requires c =
+    let g = c.args.g in
     let are = c.build-n.ensures.tets-are in
+    let o = ok _ _ _ _ _ _ _ c.requires c.refusal-r.ensures c.if-r-gt0.false in
     record {
-      small = small c.before.before.before.before.before.before.before.before.before.before.before;
-      places = omega (arith, (ok c.before.before.before.before.before.before.before.before.before.before.before).tets, ap length are, length-overwrite (tet_of g) (tets_in g) c.args.tets.now);
+      small = small _ _ _ _ _ _ _ c.requires c.refusal-r.ensures c.if-r-gt0.false;
+      places = omega (arith, o.tets, ap length are, length-overwrite (tet_of g) (tets_in g) c.args.tets.now);
       tets-are = overwrite-again (tet_of g) (tets_in g) _ _ are;
     }
 
 pub overflow_cast-result : goal.overflow_cast-result
-overflow_cast-result c = omega (arith, c.build-n.ensures.next-is, edges_few c.args.g (tets_in c.args.g), (small c.before.before.before.before.before.before.before.before.before.before.before.before.before.before.before).corners, (small c.before.before.before.before.before.before.before.before.before.before.before.before.before.before.before).few)
+overflow_cast-result c =
+    let g = c.args.g in
+    let s : Small g = small _ _ _ _ _ _ _ c.requires c.refusal-r.ensures c.if-r-gt0.false in
+    omega (arith, c.build-n.ensures.next-is, edges_few g (tets_in g), s.corners, s.few)
 
 pub tet_count-requires : goal.tet_count-requires
-tet_count-requires c = small c.before.before.before.before.before.before.before.before.before.before.before.before.before.before.before
+tet_count-requires c = small _ _ _ _ _ _ _ c.requires c.refusal-r.ensures c.if-r-gt0.false
 
 pub overflow_cast-result-2 : goal.overflow_cast-result-2
-overflow_cast-result-2 c = omega (arith, c.tet_count.ensures, (small c.before.before.before.before.before.before.before.before.before.before.before.before.before.before.before.before).few)
+overflow_cast-result-2 c =
+    let s : Small c.args.g = small _ _ _ _ _ _ _ c.requires c.refusal-r.ensures c.if-r-gt0.false in
+    omega (arith, c.tet_count.ensures, s.few)
 
 pub overflow_cast-result-3 : goal.overflow_cast-result-3
-overflow_cast-result-3 c = omega (arith, c.triangles-t.ensures.next-is, (ok c.before.before.before.before.before.before.before.before.before.before.before.before.before.before.before.before).few_triangles)
+overflow_cast-result-3 c =
+    let o = ok _ _ _ _ _ _ _ c.requires c.refusal-r.ensures c.if-r-gt0.false in
+    omega (arith, c.triangles-t.ensures.next-is, o.few_triangles)
 
 pub returns : goal.returns
 returns c = record {
