@@ -7,9 +7,6 @@ use mathlib.Core.Path.{ap, ◌∙◌}
 pub longest-requires : goal.longest-requires
 longest-requires c = c.requires
 
-pub max-requires : goal.max-requires
-max-requires c = tt
-
 pub returns : goal.returns
 unfolding cell_size
 returns c = c.max.ensures ∙ ap (max_of c.args.depth) c.longest.ensures

@@ -14,33 +14,6 @@ use native.Mathlib.Omega.{arith}
 pub loop-i-init : goal.loop-i-init
 loop-i-init c = (omega arith, refl, sym (overwrite-none _ _))
 
-pub offset_bounds-centroids-i : goal.offset_bounds-centroids-i
-offset_bounds-centroids-i c = omega arith
-
-pub bounds-centroids-i : goal.bounds-centroids-i
-bounds-centroids-i c = omega arith
-
-pub cell_number-requires : goal.cell_number-requires
-cell_number-requires c = tt
-
-pub cell_number-requires-in-loop-i : goal.cell_number-requires-in-loop-i
-cell_number-requires-in-loop-i c = tt
-
-pub cell_number-requires-in-loop-i-2 : goal.cell_number-requires-in-loop-i-2
-cell_number-requires-in-loop-i-2 c = tt
-
-pub offset_bounds-cells-i : goal.offset_bounds-cells-i
-offset_bounds-cells-i c = omega arith
-
-pub bounds-cells-i : goal.bounds-cells-i
-bounds-cells-i c = omega arith
-
-pub overflow_add-i : goal.overflow_add-i
-overflow_add-i c = omega arith
-
-pub loop-i-smaller : goal.loop-i-smaller
-loop-i-smaller c = omega arith
-
 pub loop-i-preserved : goal.loop-i-preserved
 unfolding cell_about
 loop-i-preserved c = let l = c.loop-i in

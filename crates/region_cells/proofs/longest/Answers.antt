@@ -10,40 +10,13 @@ use native.Mathlib.Omega.{arith}
 pub loop-t-init : goal.loop-t-init
 loop-t-init c = (omega arith, sym (fold_to-none _ _))
 
-pub offset_bounds-tris-t : goal.offset_bounds-tris-t
-offset_bounds-tris-t c = omega arith
-
-pub bounds-tris-t : goal.bounds-tris-t
-bounds-tris-t c = omega arith
-
-pub offset_bounds-surfaces-t : goal.offset_bounds-surfaces-t
-offset_bounds-surfaces-t c = omega arith
-
-pub bounds-surfaces-t : goal.bounds-surfaces-t
-bounds-surfaces-t c = omega arith
-
-pub overflow_add-t : goal.overflow_add-t
-overflow_add-t c = omega arith
-
 pub in_set-requires : goal.in_set-requires
 in_set-requires c = c.requires.1
-
-pub corners-requires : goal.corners-requires
-corners-requires c = tt
-
-pub longer-m-requires : goal.longer-m-requires
-longer-m-requires c = tt
-
-pub loop-t-smaller-then-in_set : goal.loop-t-smaller-then-in_set
-loop-t-smaller-then-in_set c = omega arith
 
 pub loop-t-preserved-then-in_set : goal.loop-t-preserved-then-in_set
 unfolding in_set
 loop-t-preserved-then-in_set c = let l = c.loop-t in
     (omega arith, c.longer-m.ensures ∙ (λ i. longer (c.corners.ensures i) (l.invariant.1 i)) ∙ sym (choose-true _ _ _ (sym c.in_set.ensures ∙ c.if-in_set.true)) ∙ fold_to-more _ _ _)
-
-pub loop-t-smaller : goal.loop-t-smaller
-loop-t-smaller c = omega arith
 
 pub loop-t-preserved : goal.loop-t-preserved
 unfolding in_set
