@@ -2,7 +2,6 @@
 use Rattle.region_by_depth.proofs.reach.by_depth.Goals as goal
 use Rattle.region_by_nodes.specs.Nodes.{in_set}
 use Rattle.region_cells.specs.Steps.{reached_by}
-use borrow.Author.Rules.{rules}
 use lib.Ieee.{Float}
 use lib.ListN.{length}
 use mathlib.Core.Path.{ap, ◌∙◌}

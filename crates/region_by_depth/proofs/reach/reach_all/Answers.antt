@@ -1,43 +1,30 @@
 -- `region_by_depth::reach::reach_all` meets its contract. The invariant: what the set's triangles passed reach is marked. Assumes nothing.
-use Prim.Native.Nat.{ℕ, ◌-◌, ◌≤◌}
+use Prim.Native.Nat.{ℕ}
 use Rattle.lists.proofs.Laws.{fold_to-none, fold_to-more, choose-true, choose-false}
 use Rattle.lists.specs.Lists.{fold_to, choose}
 use Rattle.region_by_depth.proofs.reach.reach_all.Goals as goal
-use Rattle.region_by_depth.proofs.reach.reach_all.Invariants.{step}
 use Rattle.region_by_nodes.specs.Nodes.{in_set}
 use Rattle.region_cells.specs.Depth.{corners_of}
 use Rattle.region_cells.specs.Steps.{reached, reached_by}
 use lib.Ieee.{Float}
-use lib.ListN.{length, get_or}
+use lib.ListN.{get_or}
 use mathlib.Core.Bool.{Bool}
 use mathlib.Core.List.{List, []}
-use mathlib.Core.Path.{◌≡◌, refl, sym, ap, ◌∙◌}
+use mathlib.Core.Path.{refl, sym, ap, ◌∙◌}
 use native.Mathlib.Nat.{le_antisymm}
 use native.Mathlib.Omega.{arith}
+
+abbrev step : List (List Float) → List (List ℕ) → List ℕ → List ℕ → List ℕ → ℕ → Float → Float → List (List Float) → ℕ → List Bool → List Bool
+step nodes tris surfaces starts kept s size depth centroids i w = choose (in_set surfaces starts kept s i) (reached size depth (corners_of nodes (get_or tris i [])) centroids w) w
 
 pub loop-t-init : goal.loop-t-init
 loop-t-init c = (omega arith, refl, sym (fold_to-none _ _))
 
-pub offset_bounds-tris-t : goal.offset_bounds-tris-t
-offset_bounds-tris-t c = omega arith
-
-pub bounds-tris-t : goal.bounds-tris-t
-bounds-tris-t c = omega arith
-
-pub offset_bounds-surfaces-t : goal.offset_bounds-surfaces-t
-offset_bounds-surfaces-t c = omega arith
-
 pub bounds-surfaces-t : goal.bounds-surfaces-t
 bounds-surfaces-t c = omega (arith, c.requires.tris_in_bounds.0)
 
-pub overflow_add-t : goal.overflow_add-t
-overflow_add-t c = omega arith
-
 pub in_set-requires : goal.in_set-requires
 in_set-requires c = c.requires.tris_in_bounds.1
-
-pub corners-requires : goal.corners-requires
-corners-requires c = tt
 
 pub reach-requires : goal.reach-requires
 reach-requires c = (c.requires.ready.0, c.loop-t.invariant.1 ∙ c.requires.ready.1)

@@ -1,20 +1,17 @@
 -- `region_by_depth::reach::reach_all` meets its contract. The invariant: what the set's triangles passed reach is marked. Assumes nothing.
 use Prim.Native.Nat.{ℕ, ◌-◌, ◌≤◌}
-use Rattle.lists.proofs.Laws.{fold_to-none, fold_to-more, choose-true, choose-false}
 use Rattle.lists.specs.Lists.{fold_to, choose}
 use Rattle.region_by_depth.proofs.reach.reach_all.Given as goal
 use Rattle.region_by_nodes.specs.Nodes.{in_set}
 use Rattle.region_cells.specs.Depth.{corners_of}
-use Rattle.region_cells.specs.Steps.{reached, reached_by}
+use Rattle.region_cells.specs.Steps.{reached}
 use lib.Ieee.{Float}
 use lib.ListN.{length, get_or}
 use mathlib.Core.Bool.{Bool}
 use mathlib.Core.List.{List, []}
-use mathlib.Core.Path.{◌≡◌, refl, sym, ap, ◌∙◌}
-use native.Mathlib.Nat.{le_antisymm}
-use native.Mathlib.Omega.{arith}
+use mathlib.Core.Path.{◌≡◌}
 
-abbrev pub step : List (List Float) → List (List ℕ) → List ℕ → List ℕ → List ℕ → ℕ → Float → Float → List (List Float) → ℕ → List Bool → List Bool
+abbrev step : List (List Float) → List (List ℕ) → List ℕ → List ℕ → List ℕ → ℕ → Float → Float → List (List Float) → ℕ → List Bool → List Bool
 step nodes tris surfaces starts kept s size depth centroids i w = choose (in_set surfaces starts kept s i) (reached size depth (corners_of nodes (get_or tris i [])) centroids w) w
 
 abbrev pub invariant-loop-t : goal.invariant-loop-t

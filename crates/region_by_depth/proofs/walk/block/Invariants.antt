@@ -1,16 +1,12 @@
 -- `region_by_depth::walk::block` meets its contract. The invariant: the planes up to x are walked, whatever list the first one found. Assumes nothing.
 use Prim.Native.Nat.{◌+◌, ◌-◌, ◌≤◌}
-use Rattle.cells.proofs.Changed.{changed-more}
 use Rattle.cells.specs.Cells.{changed}
 use Rattle.region_by_depth.proofs.walk.block.Given as goal
-use Rattle.region_cells.proofs.Near.{near-grows-x}
 use Rattle.region_cells.specs.Steps.{box_near}
 use lib.ListN.{length}
 use mathlib.Core.Bool.{Bool, true}
 use mathlib.Core.List.{List}
-use mathlib.Core.Path.{◌≡◌, refl, ◌∙◌}
-use native.Mathlib.Nat.{le_antisymm}
-use native.Mathlib.Omega.{arith}
+use mathlib.Core.Path.{◌≡◌}
 
 abbrev pub invariant-loop-x : goal.invariant-loop-x
 invariant-loop-x l = (l.x0 ≤ l.x) × (l.x ≤ l.x1) × (length l.marks ≡ length l.initial.marks)

@@ -1,10 +1,9 @@
 -- `region_by_depth::walk::column` meets its contract. The invariant: the positions passed are looked at, which is the walk of `cells`. Assumes nothing.
-use Prim.Native.Nat.{◌+◌, ◌-◌, ◌≤◌, ◌<◌}
-use Rattle.cells.proofs.Walks.{Walked, walk_none, walk-done}
+use Prim.Native.Nat.{◌+◌, ◌<◌}
+use Rattle.cells.proofs.Walks.{walk_none, walk-done}
 use Rattle.region_by_depth.proofs.walk.column.Goals as goal
 use Rattle.region_cells.proofs.Near.{near_box_lem, near-own, look-more}
 use Rattle.region_cells.specs.Steps.{box_near}
-use lib.Ieee.{lt}
 use lib.ListN.{length}
 use mathlib.Core.Bool.{true}
 use mathlib.Core.Path.{◌≡◌, refl, sym, ◌∙◌}
@@ -30,12 +29,6 @@ look-requires c = let l = c.loop-k in
     let lt : l.k < length c.args.cells.now = omega (arith, l.invariant, c.loop-k-test.true) in
     let own = f.order_lt l.k lt in
     (omega (arith, f.orders), own, omega (arith, own, c.requires.1), omega (arith, own, c.requires.1, c.requires.2, l.invariant.3))
-
-pub overflow_add-k : goal.overflow_add-k
-overflow_add-k c = omega arith
-
-pub loop-k-smaller : goal.loop-k-smaller
-loop-k-smaller c = omega arith
 
 pub loop-k-preserved : goal.loop-k-preserved
 loop-k-preserved c = let a = c.args in

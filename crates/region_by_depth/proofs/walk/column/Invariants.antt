@@ -1,15 +1,11 @@
 -- `region_by_depth::walk::column` meets its contract. The invariant: the positions passed are looked at, which is the walk of `cells`. Assumes nothing.
-use Prim.Native.Nat.{◌+◌, ◌-◌, ◌≤◌, ◌<◌}
-use Rattle.cells.proofs.Walks.{Walked, walk_none, walk-done}
+use Prim.Native.Nat.{◌+◌, ◌-◌, ◌≤◌}
+use Rattle.cells.proofs.Walks.{Walked}
 use Rattle.region_by_depth.proofs.walk.column.Given as goal
-use Rattle.region_cells.proofs.Near.{near_box_lem, near-own, look-more}
 use Rattle.region_cells.specs.Steps.{box_near}
-use lib.Ieee.{lt}
 use lib.ListN.{length}
 use mathlib.Core.Bool.{true}
-use mathlib.Core.Path.{◌≡◌, refl, sym, ◌∙◌}
-use native.Mathlib.Nat.{le_antisymm}
-use native.Mathlib.Omega.{arith}
+use mathlib.Core.Path.{◌≡◌}
 
 abbrev pub invariant-loop-k : goal.invariant-loop-k
 invariant-loop-k l = (l.initial.k ≤ l.k) × (l.k ≤ l.to) × (l.to ≤ length l.cells) × (length l.marks ≡ length l.initial.marks)

@@ -3,7 +3,6 @@ use Rattle.lists.proofs.Laws.{choose-true, choose-false}
 use Rattle.region_by_depth.proofs.walk.look.Goals as goal
 use Rattle.region_cells.proofs.Near.{marked-stays}
 use Rattle.region_cells.specs.Steps.{near_at, seen_at}
-use borrow.Author.Rules.{rules}
 use lib.ListN.{get_or}
 use mathlib.Core.Path.{sym, ◌∙◌}
 

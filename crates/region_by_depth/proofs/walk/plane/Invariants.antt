@@ -1,16 +1,12 @@
 -- `region_by_depth::walk::plane` meets its contract. The invariant: the columns up to y are walked, whatever list the first one found. Assumes nothing.
 use Prim.Native.Nat.{◌+◌, ◌-◌, ◌≤◌}
-use Rattle.cells.proofs.Changed.{changed-more}
 use Rattle.cells.specs.Cells.{changed}
 use Rattle.region_by_depth.proofs.walk.plane.Given as goal
-use Rattle.region_cells.proofs.Near.{near-grows-y}
 use Rattle.region_cells.specs.Steps.{box_near}
 use lib.ListN.{length}
 use mathlib.Core.Bool.{Bool, true}
 use mathlib.Core.List.{List}
-use mathlib.Core.Path.{◌≡◌, refl, ◌∙◌}
-use native.Mathlib.Nat.{le_antisymm}
-use native.Mathlib.Omega.{arith}
+use mathlib.Core.Path.{◌≡◌}
 
 abbrev pub invariant-loop-y : goal.invariant-loop-y
 invariant-loop-y l = (l.y0 ≤ l.y) × (l.y ≤ l.y1) × (length l.marks ≡ length l.initial.marks)
