@@ -1,32 +1,16 @@
 -- `region_passive_checks::kept_short` meets its contract. The invariant: what is found among the sets passed. Assumes nothing.
-use Prim.Native.Nat.{◌-◌, ◌≤◌}
 use Rattle.lists.proofs.Laws.{any_none, any_step}
 use Rattle.lists.specs.Lists.{any_to}
 use Rattle.region_passive_checks.proofs.kept_short.Goals as goal
-use Rattle.region_passive_checks.specs.Checks.{set_short, kept_short}
+use Rattle.region_passive_checks.specs.Checks.{kept_short}
 use lib.Dec.{ltb}
 use mathlib.Core.Bool.{◌||◌, ◌&&◌}
-use mathlib.Core.Path.{◌≡◌, sym, ap, ◌∙◌}
+use mathlib.Core.Path.{sym, ap, ◌∙◌}
 use native.Mathlib.Nat.{le_antisymm}
 use native.Mathlib.Omega.{arith}
 
 pub loop-s-init : goal.loop-s-init
 loop-s-init c = (omega arith, sym (any_none _))
-
-pub start_at-from-requires : goal.start_at-from-requires
-start_at-from-requires c = tt
-
-pub overflow_add-s : goal.overflow_add-s
-overflow_add-s c = omega arith
-
-pub start_at-end-requires : goal.start_at-end-requires
-start_at-end-requires c = tt
-
-pub overflow_add-s-in-loop-s : goal.overflow_add-s-in-loop-s
-overflow_add-s-in-loop-s c = omega arith
-
-pub loop-s-smaller : goal.loop-s-smaller
-loop-s-smaller c = omega arith
 
 pub loop-s-preserved : goal.loop-s-preserved
 loop-s-preserved c = let l = c.loop-s in

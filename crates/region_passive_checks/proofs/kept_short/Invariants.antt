@@ -1,14 +1,9 @@
 -- `region_passive_checks::kept_short` meets its contract. The invariant: what is found among the sets passed. Assumes nothing.
 use Prim.Native.Nat.{◌-◌, ◌≤◌}
-use Rattle.lists.proofs.Laws.{any_none, any_step}
 use Rattle.lists.specs.Lists.{any_to}
 use Rattle.region_passive_checks.proofs.kept_short.Given as goal
-use Rattle.region_passive_checks.specs.Checks.{set_short, kept_short}
-use lib.Dec.{ltb}
-use mathlib.Core.Bool.{◌||◌, ◌&&◌}
-use mathlib.Core.Path.{◌≡◌, sym, ap, ◌∙◌}
-use native.Mathlib.Nat.{le_antisymm}
-use native.Mathlib.Omega.{arith}
+use Rattle.region_passive_checks.specs.Checks.{set_short}
+use mathlib.Core.Path.{◌≡◌}
 
 abbrev pub invariant-loop-s : goal.invariant-loop-s
 invariant-loop-s l = (l.s ≤ l.sets) × (l.found ≡ any_to (set_short l.starts l.kept) l.s)

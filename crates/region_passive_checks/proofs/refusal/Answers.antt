@@ -5,21 +5,6 @@ use Rattle.region_passive_checks.proofs.refusal.Goals as goal
 use mathlib.Core.Bool.{Bool, ◌||◌}
 use mathlib.Core.Path.{ap, ◌∙◌}
 
-pub kept_short-requires : goal.kept_short-requires
-kept_short-requires c = tt
-
-pub depths_bad-requires : goal.depths_bad-requires
-depths_bad-requires c = tt
-
-pub first-requires : goal.first-requires
-first-requires c = tt
-
-pub first-rest-requires : goal.first-rest-requires
-first-rest-requires c = tt
-
-pub refusal-requires : goal.refusal-requires
-refusal-requires c = tt
-
 pub returns : goal.returns
 returns c = let a = c.args in
     let short = c.first.ensures ∙ ap (λ (t : Bool). choose (a.short || t) 14 0) c.kept_short.ensures in

@@ -1,7 +1,6 @@
 -- `region_passive_checks::start_at` meets its contract: what is past the end is 0. Assumes nothing.
 use Prim.Native.Nat.{ℕ, zero, suc, ◌≤◌}
 use Rattle.region_passive_checks.proofs.start_at.Goals as goal
-use borrow.Author.Rules.{rules}
 use lib.ListN.{length, get_or}
 use mathlib.Core.List.{List, [], ◌∷◌}
 use mathlib.Core.Path.{◌≡◌, refl, sym}
