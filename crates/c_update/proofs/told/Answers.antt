@@ -1,7 +1,6 @@
 -- `told` meets its contract, number by number. Assumes nothing.
 use Rattle.c_update.proofs.told.Goals as goal
 use Rattle.c_update.specs.Numbers.{told_of}
-use borrow.Author.Rules.{rules}
 
 pub returns : goal.returns
 unfolding told_of
