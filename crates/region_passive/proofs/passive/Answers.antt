@@ -2,20 +2,25 @@
 use Rattle.lists.proofs.Bools.{at-most-zero}
 use Rattle.region_passive.proofs.Fits.{refusal_is, roomy, refused, accepted}
 use Rattle.region_passive.proofs.passive.Goals as goal
-use Rattle.region_passive.specs.Passive.{refusal_of}
-use mathlib.Core.Path.{◌≡◌, sym, ◌∙◌}
-
-pub too_short-short-requires : goal.too_short-short-requires
-too_short-short-requires c = tt
-
-pub refusal-r-requires : goal.refusal-r-requires
-refusal-r-requires c = tt
+use Rattle.region_passive.specs.Passive.{Problem, Lent}
+use mathlib.Core.Path.{sym, ◌∙◌}
 
 pub returns-then-r-gt0 : goal.returns-then-r-gt0
-returns-then-r-gt0 c = refused ((let a = c.args in record { nodes = a.nodes.now; tets = a.tets.now; tris = a.tris.now; surfaces = a.surfaces.now; held = a.held.now; loaded = a.loaded.now; starts = a.starts.now; kept = a.kept.now; depths = a.depths.now })) ((let a = c.args in record { marks = a.marks.now; keep = a.keep.now; centroids = a.centroids.now; cells = a.cells.now; order = a.order.now; place = a.place.now; first = a.first.now })) c.refusal-r.result ((let h : c.refusal-r.result ≡ refusal_of ((let a = c.args in record { nodes = a.nodes.now; tets = a.tets.now; tris = a.tris.now; surfaces = a.surfaces.now; held = a.held.now; loaded = a.loaded.now; starts = a.starts.now; kept = a.kept.now; depths = a.depths.now })) ((let a = c.args in record { marks = a.marks.now; keep = a.keep.now; centroids = a.centroids.now; cells = a.cells.now; order = a.order.now; place = a.place.now; first = a.first.now })) = refusal_is ((let a = c.args in record { nodes = a.nodes.now; tets = a.tets.now; tris = a.tris.now; surfaces = a.surfaces.now; held = a.held.now; loaded = a.loaded.now; starts = a.starts.now; kept = a.kept.now; depths = a.depths.now })) ((let a = c.args in record { marks = a.marks.now; keep = a.keep.now; centroids = a.centroids.now; cells = a.cells.now; order = a.order.now; place = a.place.now; first = a.first.now })) c.too_short-short.result c.refusal-r.result c.too_short-short.ensures c.refusal-r.ensures in h)) c.if-r-gt0.true
+returns-then-r-gt0 c =
+    let a = c.args in
+    let p : Problem = record { nodes = a.nodes.now; tets = a.tets.now; tris = a.tris.now; surfaces = a.surfaces.now; held = a.held.now; loaded = a.loaded.now; starts = a.starts.now; kept = a.kept.now; depths = a.depths.now } in
+    let l : Lent = record { marks = a.marks.now; keep = a.keep.now; centroids = a.centroids.now; cells = a.cells.now; order = a.order.now; place = a.place.now; first = a.first.now } in
+    let is = refusal_is p l c.too_short-short.result c.refusal-r.result c.too_short-short.ensures c.refusal-r.ensures in
+    refused p l c.refusal-r.result is c.if-r-gt0.true
 
 pub mark_front-requires : goal.mark_front-requires
-mark_front-requires c = roomy ((let a = c.args in record { nodes = a.nodes.now; tets = a.tets.now; tris = a.tris.now; surfaces = a.surfaces.now; held = a.held.now; loaded = a.loaded.now; starts = a.starts.now; kept = a.kept.now; depths = a.depths.now })) ((let a = c.args in record { marks = a.marks.now; keep = a.keep.now; centroids = a.centroids.now; cells = a.cells.now; order = a.order.now; place = a.place.now; first = a.first.now })) ((let h : refusal_of ((let a = c.args in record { nodes = a.nodes.now; tets = a.tets.now; tris = a.tris.now; surfaces = a.surfaces.now; held = a.held.now; loaded = a.loaded.now; starts = a.starts.now; kept = a.kept.now; depths = a.depths.now })) ((let a = c.args in record { marks = a.marks.now; keep = a.keep.now; centroids = a.centroids.now; cells = a.cells.now; order = a.order.now; place = a.place.now; first = a.first.now })) ≡ 0 = sym ((let h : c.refusal-r.result ≡ refusal_of ((let a = c.args in record { nodes = a.nodes.now; tets = a.tets.now; tris = a.tris.now; surfaces = a.surfaces.now; held = a.held.now; loaded = a.loaded.now; starts = a.starts.now; kept = a.kept.now; depths = a.depths.now })) ((let a = c.args in record { marks = a.marks.now; keep = a.keep.now; centroids = a.centroids.now; cells = a.cells.now; order = a.order.now; place = a.place.now; first = a.first.now })) = refusal_is ((let a = c.args in record { nodes = a.nodes.now; tets = a.tets.now; tris = a.tris.now; surfaces = a.surfaces.now; held = a.held.now; loaded = a.loaded.now; starts = a.starts.now; kept = a.kept.now; depths = a.depths.now })) ((let a = c.args in record { marks = a.marks.now; keep = a.keep.now; centroids = a.centroids.now; cells = a.cells.now; order = a.order.now; place = a.place.now; first = a.first.now })) c.too_short-short.result c.refusal-r.result c.too_short-short.ensures c.refusal-r.ensures in h)) ∙ at-most-zero c.refusal-r.result c.if-r-gt0.false in h))
+mark_front-requires c =
+    let a = c.args in
+    let p : Problem = record { nodes = a.nodes.now; tets = a.tets.now; tris = a.tris.now; surfaces = a.surfaces.now; held = a.held.now; loaded = a.loaded.now; starts = a.starts.now; kept = a.kept.now; depths = a.depths.now } in
+    let l : Lent = record { marks = a.marks.now; keep = a.keep.now; centroids = a.centroids.now; cells = a.cells.now; order = a.order.now; place = a.place.now; first = a.first.now } in
+    let is = refusal_is p l c.too_short-short.result c.refusal-r.result c.too_short-short.ensures c.refusal-r.ensures in
+    let none = sym is ∙ at-most-zero c.refusal-r.result c.if-r-gt0.false in
+    roomy p l none
 
 pub shape_of-marks : goal.shape_of-marks
 shape_of-marks c = c.mark_front.auto.marks
@@ -39,4 +44,13 @@ pub shape_of-first : goal.shape_of-first
 shape_of-first c = c.mark_front.auto.first
 
 pub returns : goal.returns
-returns c = accepted ((let a = c.args in record { nodes = a.nodes.now; tets = a.tets.now; tris = a.tris.now; surfaces = a.surfaces.now; held = a.held.now; loaded = a.loaded.now; starts = a.starts.now; kept = a.kept.now; depths = a.depths.now })) ((let a = c.args in record { marks = a.marks.now; keep = a.keep.now; centroids = a.centroids.now; cells = a.cells.now; order = a.order.now; place = a.place.now; first = a.first.now })) (record { marks = c.mark_front.new.marks; keep = c.mark_front.new.keep; centroids = c.mark_front.new.centroids; cells = c.mark_front.new.cells; order = c.mark_front.new.order; place = c.mark_front.new.place; first = c.mark_front.new.first }) (sym ((let h : refusal_of ((let a = c.args in record { nodes = a.nodes.now; tets = a.tets.now; tris = a.tris.now; surfaces = a.surfaces.now; held = a.held.now; loaded = a.loaded.now; starts = a.starts.now; kept = a.kept.now; depths = a.depths.now })) ((let a = c.args in record { marks = a.marks.now; keep = a.keep.now; centroids = a.centroids.now; cells = a.cells.now; order = a.order.now; place = a.place.now; first = a.first.now })) ≡ 0 = sym ((let h : c.refusal-r.result ≡ refusal_of ((let a = c.args in record { nodes = a.nodes.now; tets = a.tets.now; tris = a.tris.now; surfaces = a.surfaces.now; held = a.held.now; loaded = a.loaded.now; starts = a.starts.now; kept = a.kept.now; depths = a.depths.now })) ((let a = c.args in record { marks = a.marks.now; keep = a.keep.now; centroids = a.centroids.now; cells = a.cells.now; order = a.order.now; place = a.place.now; first = a.first.now })) = refusal_is ((let a = c.args in record { nodes = a.nodes.now; tets = a.tets.now; tris = a.tris.now; surfaces = a.surfaces.now; held = a.held.now; loaded = a.loaded.now; starts = a.starts.now; kept = a.kept.now; depths = a.depths.now })) ((let a = c.args in record { marks = a.marks.now; keep = a.keep.now; centroids = a.centroids.now; cells = a.cells.now; order = a.order.now; place = a.place.now; first = a.first.now })) c.too_short-short.result c.refusal-r.result c.too_short-short.ensures c.refusal-r.ensures in h)) ∙ at-most-zero c.refusal-r.result c.if-r-gt0.false in h))) c.mark_front.ensures.marks_after c.mark_front.ensures.past c.mark_front.auto.keep c.mark_front.auto.centroids c.mark_front.auto.cells c.mark_front.auto.order c.mark_front.auto.place c.mark_front.auto.first
+returns c =
+    let a = c.args in
+    let p : Problem = record { nodes = a.nodes.now; tets = a.tets.now; tris = a.tris.now; surfaces = a.surfaces.now; held = a.held.now; loaded = a.loaded.now; starts = a.starts.now; kept = a.kept.now; depths = a.depths.now } in
+    let l : Lent = record { marks = a.marks.now; keep = a.keep.now; centroids = a.centroids.now; cells = a.cells.now; order = a.order.now; place = a.place.now; first = a.first.now } in
+    let is = refusal_is p l c.too_short-short.result c.refusal-r.result c.too_short-short.ensures c.refusal-r.ensures in
+    let none = sym is ∙ at-most-zero c.refusal-r.result c.if-r-gt0.false in
+    let t = c.mark_front in
+    accepted p l
+    (record { marks = t.new.marks; keep = t.new.keep; centroids = t.new.centroids; cells = t.new.cells; order = t.new.order; place = t.new.place; first = t.new.first })
+    (sym none) t.ensures.marks_after t.ensures.past t.auto.keep t.auto.centroids t.auto.cells t.auto.order t.auto.place t.auto.first

@@ -15,18 +15,6 @@ use native.Mathlib.Omega.{arith}
 pub loop-s-init : goal.loop-s-init
 loop-s-init c = (omega arith, refl, refl, refl, refl, refl, deepened-none _ _ _)
 
-pub offset_bounds-depths-s : goal.offset_bounds-depths-s
-offset_bounds-depths-s c = omega arith
-
-pub bounds-depths-s : goal.bounds-depths-s
-bounds-depths-s c = omega arith
-
-pub overflow_add-s : goal.overflow_add-s
-overflow_add-s c = omega arith
-
-pub is_depth-requires : goal.is_depth-requires
-is_depth-requires c = tt
-
 pub by_depth-requires : goal.by_depth-requires
 by_depth-requires c = let l = c.loop-s in
     record { centroids_nonzero = (c.requires.some, c.requires.few, l.invariant.1 ∙ c.requires.celled, l.invariant.2 ∙ c.requires.orders, l.invariant.3 ∙ c.requires.places, l.invariant.4 ∙ c.requires.firsts, l.invariant.5 ∙ c.requires.marked); tris_in_bounds = (c.requires.surfaced, omega (arith, c.requires.begun, c.loop-s-test.true)) }

@@ -14,27 +14,6 @@ use native.Mathlib.Omega.{arith}
 pub loop-e-init : goal.loop-e-init
 loop-e-init c = (omega arith, refl, sym (overwrite-none _ _))
 
-pub offset_bounds-tets-e : goal.offset_bounds-tets-e
-offset_bounds-tets-e c = omega arith
-
-pub bounds-tets-e : goal.bounds-tets-e
-bounds-tets-e c = omega arith
-
-pub centroid-m-requires : goal.centroid-m-requires
-centroid-m-requires c = tt
-
-pub offset_bounds-centroids-e : goal.offset_bounds-centroids-e
-offset_bounds-centroids-e c = omega arith
-
-pub bounds-centroids-e : goal.bounds-centroids-e
-bounds-centroids-e c = omega arith
-
-pub overflow_add-e : goal.overflow_add-e
-overflow_add-e c = omega arith
-
-pub loop-e-smaller : goal.loop-e-smaller
-loop-e-smaller c = omega arith
-
 pub loop-e-preserved : goal.loop-e-preserved
 loop-e-preserved c = let l = c.loop-e in
     (omega arith, simp length-set l.invariant.1, ap (set l.centroids l.e) (ap stored c.centroid-m.ensures) ∙ rw l.invariant.2 (overwrite-more _ _ _ (omega arith)))

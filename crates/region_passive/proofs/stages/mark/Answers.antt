@@ -12,10 +12,11 @@ use mathlib.Core.Path.{◌≡◌, sym, ap, ◌∙◌}
 use native.Mathlib.Omega.{arith}
 
 -- by nodes, of as many nodes as there are flags
-by_node_lem : (q : Problem) (w : List Bool) (m : ℕ) → m ≡ length q.nodes
-    → w ≡ tabulate (λ e. by_nodes q.tris q.surfaces q.starts q.kept q.held q.loaded (length q.depths) m (get_or q.tets e [])) (length q.tets)
-    → w ≡ tabulate (λ e. by_nodes q.tris q.surfaces q.starts q.kept q.held q.loaded (length q.depths) (length q.nodes) (get_or q.tets e [])) (length q.tets)
-by_node_lem q w m n e = e ∙ ap (λ (k : ℕ). tabulate (λ i. by_nodes q.tris q.surfaces q.starts q.kept q.held q.loaded (length q.depths) k (get_or q.tets i [])) (length q.tets)) n
+by_node_lem : (p : Problem) (k : ℕ) (w : List Bool) → k ≡ length p.nodes
+    → w ≡ tabulate (λ e. by_nodes p.tris p.surfaces p.starts p.kept p.held p.loaded (length p.depths) k (get_or p.tets e [])) (length p.tets)
+    → w ≡ tabulate (λ e. by_nodes p.tris p.surfaces p.starts p.kept p.held p.loaded (length p.depths) (length p.nodes) (get_or p.tets e [])) (length p.tets)
+by_node_lem p k w flags e =
+    e ∙ ap (λ (m : ℕ). tabulate (λ i. by_nodes p.tris p.surfaces p.starts p.kept p.held p.loaded (length p.depths) m (get_or p.tets i [])) (length p.tets)) flags
 
 pub by_nodes-requires : goal.by_nodes-requires
 by_nodes-requires c = (c.requires.surfaced, c.requires.begun, c.requires.marked)
@@ -28,9 +29,10 @@ shape_of-keep-then-tets-lt1 c = c.by_nodes.auto.keep
 
 pub returns-then-tets-lt1 : goal.returns-then-tets-lt1
 returns-then-tets-lt1 c =
-    let a = c.args in let q : Problem = record { nodes = a.nodes.now; tets = a.tets.now; tris = a.tris.now; surfaces = a.surfaces.now; held = a.held.now; loaded = a.loaded.now; starts = a.starts.now; kept = a.kept.now; depths = a.depths.now } in
+    let a = c.args in
+    let p : Problem = record { nodes = a.nodes.now; tets = a.tets.now; tris = a.tris.now; surfaces = a.surfaces.now; held = a.held.now; loaded = a.loaded.now; starts = a.starts.now; kept = a.kept.now; depths = a.depths.now } in
     let w = c.by_nodes.new.marks in
-    solid-none q w (omega (arith, c.if-tets-lt1.true)) (by_node_lem q w _ c.requires.keeps c.by_nodes.ensures)
+    solid-none p w (omega (arith, c.if-tets-lt1.true)) (by_node_lem p (length a.keep.now) w c.requires.keeps c.by_nodes.ensures)
 
 pub centroids_of-requires : goal.centroids_of-requires
 centroids_of-requires c = c.requires.middled
@@ -72,7 +74,9 @@ shape_of-first c = c.by_depths.auto.first
 
 pub returns : goal.returns
 returns c =
-    let a = c.args in let q : Problem = record { nodes = a.nodes.now; tets = a.tets.now; tris = a.tris.now; surfaces = a.surfaces.now; held = a.held.now; loaded = a.loaded.now; starts = a.starts.now; kept = a.kept.now; depths = a.depths.now } in
+    let a = c.args in
+    let p : Problem = record { nodes = a.nodes.now; tets = a.tets.now; tris = a.tris.now; surfaces = a.surfaces.now; held = a.held.now; loaded = a.loaded.now; starts = a.starts.now; kept = a.kept.now; depths = a.depths.now } in
     let w = c.by_nodes.new.marks in
-    solid q w c.by_depths.new.marks c.centroids_of.new.centroids (by_node_lem q w _ c.requires.keeps c.by_nodes.ensures) c.centroids_of.ensures
-    (c.by_depths.ensures ∙ sets-only q c.centroids_of.new.centroids (length c.args.depths.now) w)
+    let middles = c.centroids_of.new.centroids in
+    solid p w c.by_depths.new.marks middles (by_node_lem p (length a.keep.now) w c.requires.keeps c.by_nodes.ensures) c.centroids_of.ensures
+    (c.by_depths.ensures ∙ sets-only p middles (length a.depths.now) w)

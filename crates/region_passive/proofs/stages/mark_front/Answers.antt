@@ -2,6 +2,7 @@
 use Prim.Native.Nat.{◌+◌}
 use Rattle.region_passive.proofs.Solid.{solid-front}
 use Rattle.region_passive.proofs.stages.mark_front.Goals as goal
+use Rattle.region_passive.specs.Passive.{Problem}
 use lib.ListN.{length, drop}
 use lib.Seq.{length-take-le, length_front, drop_at}
 use mathlib.Core.Path.{sym, ◌∙◌}
@@ -71,15 +72,20 @@ shape_of-first c = let a = c.args in
     length_front a.first.now c.mark.new.first (length a.tets.now + 1) c.mark.auto.first
 
 pub returns : goal.returns
-returns c = let a = c.args in
+returns c =
+    let a = c.args in
+    let p : Problem = record { nodes = a.nodes.now; tets = a.tets.now; tris = a.tris.now; surfaces = a.surfaces.now; held = a.held.now; loaded = a.loaded.now; starts = a.starts.now; kept = a.kept.now; depths = a.depths.now } in
+    let t = c.mark in
+    let n = length a.tets.now in
     record {
-      marks_after = solid-front ((let a = c.args in record { nodes = a.nodes.now; tets = a.tets.now; tris = a.tris.now; surfaces = a.surfaces.now; held = a.held.now; loaded = a.loaded.now; starts = a.starts.now; kept = a.kept.now; depths = a.depths.now })) c.mark.new.marks a.marks.now c.requires.marked c.mark.ensures;
-      past = record {
-        keeps = drop_at c.mark.new.keep (drop (length a.nodes.now) a.keep.now) (length a.nodes.now) (c.mark.auto.keep ∙ length-take-le (length a.nodes.now) a.keep.now c.requires.keeps);
-        middled = drop_at c.mark.new.centroids (drop (length a.tets.now) a.centroids.now) (length a.tets.now) (c.mark.auto.centroids ∙ length-take-le (length a.tets.now) a.centroids.now c.requires.middled);
-        celled = drop_at c.mark.new.cells (drop (length a.tets.now) a.cells.now) (length a.tets.now) (c.mark.auto.cells ∙ length-take-le (length a.tets.now) a.cells.now c.requires.celled);
-        orders = drop_at c.mark.new.order (drop (length a.tets.now) a.order.now) (length a.tets.now) (c.mark.auto.order ∙ length-take-le (length a.tets.now) a.order.now c.requires.orders);
-        places = drop_at c.mark.new.place (drop (length a.tets.now) a.place.now) (length a.tets.now) (c.mark.auto.place ∙ length-take-le (length a.tets.now) a.place.now c.requires.places);
-        firsts = drop_at c.mark.new.first (drop (length a.tets.now + 1) a.first.now) (length a.tets.now + 1) (c.mark.auto.first ∙ length-take-le (length a.tets.now + 1) a.first.now c.requires.firsts);
-      };
+      marks_after = solid-front p t.new.marks a.marks.now c.requires.marked t.ensures;
+      past =
+          record {
+            keeps = drop_at t.new.keep (drop (length a.nodes.now) a.keep.now) (length a.nodes.now) (t.auto.keep ∙ length-take-le (length a.nodes.now) a.keep.now c.requires.keeps);
+            middled = drop_at t.new.centroids (drop n a.centroids.now) n (t.auto.centroids ∙ length-take-le n a.centroids.now c.requires.middled);
+            celled = drop_at t.new.cells (drop n a.cells.now) n (t.auto.cells ∙ length-take-le n a.cells.now c.requires.celled);
+            orders = drop_at t.new.order (drop n a.order.now) n (t.auto.order ∙ length-take-le n a.order.now c.requires.orders);
+            places = drop_at t.new.place (drop n a.place.now) n (t.auto.place ∙ length-take-le n a.place.now c.requires.places);
+            firsts = drop_at t.new.first (drop (n + 1) a.first.now) (n + 1) (t.auto.first ∙ length-take-le (n + 1) a.first.now c.requires.firsts);
+          };
     }
