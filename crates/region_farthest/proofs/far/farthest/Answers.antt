@@ -24,34 +24,22 @@ unfolding farthest_in fold_to
 loop-k-init c = (omega arith, refl)
 
 pub bounds-seen-k : goal.bounds-seen-k
-bounds-seen-k c = omega (arith, c.requires, c.before)
+bounds-seen-k c = omega (arith, c.requires)
 
 pub offset_bounds-nodes-k : goal.offset_bounds-nodes-k
-offset_bounds-nodes-k c = omega (arith, c.before.before)
+offset_bounds-nodes-k c = omega arith
 
 pub bounds-nodes-k : goal.bounds-nodes-k
-bounds-nodes-k c = omega (arith, c.before.before)
-
-pub point-requires : goal.point-requires
-point-requires c = tt
-
-pub image-p-requires : goal.image-p-requires
-image-p-requires c = tt
+bounds-nodes-k c = omega arith
 
 pub near-requires : goal.near-requires
 near-requires c = (c.requires.0, c.requires.1)
 
-pub sqrt-requires : goal.sqrt-requires
-sqrt-requires c = tt
-
-pub max-worst-requires : goal.max-worst-requires
-max-worst-requires c = tt
-
 pub overflow_add-k : goal.overflow_add-k
-overflow_add-k c = omega (arith, c.before.before.before.before.before.before.before.before)
+overflow_add-k c = omega arith
 
 pub loop-k-smaller-then-seen-k : goal.loop-k-smaller-then-seen-k
-loop-k-smaller-then-seen-k c = omega (arith, c.before.before.before.before.before.before.before.before)
+loop-k-smaller-then-seen-k c = omega arith
 
 pub loop-k-preserved-then-seen-k : goal.loop-k-preserved-then-seen-k
 unfolding farthest_in farther
@@ -62,7 +50,7 @@ loop-k-preserved-then-seen-k c = let l = c.loop-k in
     let w = l.worst in
     let seen_at = c.image-p.ensures ∙ ap (image a.mirror) c.point.ensures in
     let root = c.sqrt.ensures ∙ ap (sqrt_of binary64) (c.near.ensures ∙ ap (λ (p : Vec3). (search_in a.faces.now p (mul binary64 w w) T unfound).best) seen_at) in (
-      omega (arith, c.before.before.before.before.before.before.before.before),
+      omega arith,
       (c.max-worst.ensures ∙ ap (max_of w) root)
           ∙ sym (choose-true _ _ w c.if-seen-k.true)
           ∙ ap (λ (w : Float). choose (get_or a.seen.now l.k false) (farther a.faces.now T a.mirror at w) w) l.invariant.1
@@ -70,10 +58,10 @@ loop-k-preserved-then-seen-k c = let l = c.loop-k in
     )
 
 pub overflow_add-k-else-seen-k : goal.overflow_add-k-else-seen-k
-overflow_add-k-else-seen-k c = omega (arith, c.before.before)
+overflow_add-k-else-seen-k c = omega arith
 
 pub loop-k-smaller : goal.loop-k-smaller
-loop-k-smaller c = omega (arith, c.before.before)
+loop-k-smaller c = omega arith
 
 pub loop-k-preserved : goal.loop-k-preserved
 unfolding farthest_in farther
@@ -82,7 +70,7 @@ loop-k-preserved c = let l = c.loop-k in
     let T = tree_in a.order.now a.boxes.now in
     let at = point (get_or a.nodes.now l.k []) in
     let w = l.worst in (
-      omega (arith, c.before.before),
+      omega arith,
       sym (choose-false (get_or a.seen.now l.k false) (farther a.faces.now T a.mirror at w) w c.if-seen-k.false)
           ∙ ap (λ (w : Float). choose (get_or a.seen.now l.k false) (farther a.faces.now T a.mirror at w) w) l.invariant.1
           ∙ fold_to-more (λ k w. choose (get_or a.seen.now k false) (farther a.faces.now T a.mirror (point (get_or a.nodes.now k [])) w) w) zero64 l.k,

@@ -13,15 +13,6 @@ use native.Mathlib.Omega.{arith}
 pub loop-i-init : goal.loop-i-init
 loop-i-init c = (omega arith, refl, sym (overwrite-none _ _))
 
-pub bounds-seen-i : goal.bounds-seen-i
-bounds-seen-i c = omega arith
-
-pub overflow_add-i : goal.overflow_add-i
-overflow_add-i c = omega arith
-
-pub loop-i-smaller : goal.loop-i-smaller
-loop-i-smaller c = omega arith
-
 pub loop-i-preserved : goal.loop-i-preserved
 loop-i-preserved c = let l = c.loop-i in
     (omega arith, simp length-set l.invariant.1, (λ k. set (l.invariant.2 k) l.i false) ∙ overwrite-more (λ k. false) l.i c.args.seen.now (omega arith))

@@ -19,59 +19,41 @@ key_at a t = total_key (coordinate a (middle_of (corners_of t)))
 pub loop-i-init : goal.loop-i-init
 loop-i-init c = (omega arith, refl, refl, refl, sym (overwrite-none _ _), sym (overwrite-none _ _), sym (overwrite-none _ _))
 
-pub offset_bounds-faces-i : goal.offset_bounds-faces-i
-offset_bounds-faces-i c = omega arith
-
-pub bounds-faces-i : goal.bounds-faces-i
-bounds-faces-i c = omega arith
-
-pub middle-m-requires : goal.middle-m-requires
-middle-m-requires c = tt
-
-pub total_key-requires : goal.total_key-requires
-total_key-requires c = tt
-
 pub offset_bounds-kx-i : goal.offset_bounds-kx-i
-offset_bounds-kx-i c = omega (arith, c.before.before.before)
+offset_bounds-kx-i c = omega arith
 
 pub bounds-kx-i : goal.bounds-kx-i
-bounds-kx-i c = omega (arith, c.requires, c.before.before.before)
-
-pub total_key-requires-in-loop-i : goal.total_key-requires-in-loop-i
-total_key-requires-in-loop-i c = tt
+bounds-kx-i c = omega (arith, c.requires)
 
 pub offset_bounds-ky-i : goal.offset_bounds-ky-i
-offset_bounds-ky-i c = omega (arith, c.before.before.before.before)
+offset_bounds-ky-i c = omega arith
 
 pub bounds-ky-i : goal.bounds-ky-i
-bounds-ky-i c = omega (arith, c.requires, c.before.before.before.before)
-
-pub total_key-requires-in-loop-i-2 : goal.total_key-requires-in-loop-i-2
-total_key-requires-in-loop-i-2 c = tt
+bounds-ky-i c = omega (arith, c.requires)
 
 pub offset_bounds-kz-i : goal.offset_bounds-kz-i
-offset_bounds-kz-i c = omega (arith, c.before.before.before.before.before)
+offset_bounds-kz-i c = omega arith
 
 pub bounds-kz-i : goal.bounds-kz-i
-bounds-kz-i c = omega (arith, c.requires, c.before.before.before.before.before)
+bounds-kz-i c = omega (arith, c.requires)
 
 pub overflow_add-i : goal.overflow_add-i
-overflow_add-i c = omega (arith, c.before.before.before.before.before)
+overflow_add-i c = omega arith
 
 pub loop-i-smaller : goal.loop-i-smaller
-loop-i-smaller c = omega (arith, c.before.before.before.before.before)
+loop-i-smaller c = omega arith
 
 pub loop-i-preserved : goal.loop-i-preserved
 unfolding coordinate
 loop-i-preserved c = let l = c.loop-i in
     let a = c.args in (
-      omega (arith, c.before.before.before.before.before),
+      omega arith,
       simp length-set l.invariant.1,
       simp length-set l.invariant.2,
       simp length-set l.invariant.3,
-      (λ k. set (l.invariant.4 k) l.i ((c.total_key.ensures ∙ (λ j. total_key (c.middle-m.ensures j).x)) k)) ∙ overwrite-more (λ k. total_key (coordinate 0 (middle_of (corners_of (get_or a.faces.now k []))))) l.i a.kx.now (omega (arith, c.requires, c.before.before.before.before.before)),
-      (λ k. set (l.invariant.5 k) l.i ((c.total_key-in-loop-i.ensures ∙ (λ j. total_key (c.middle-m.ensures j).y)) k)) ∙ overwrite-more (λ k. total_key (coordinate 1 (middle_of (corners_of (get_or a.faces.now k []))))) l.i a.ky.now (omega (arith, c.requires, c.before.before.before.before.before)),
-      (λ k. set (l.invariant.6 k) l.i ((c.total_key-in-loop-i-2.ensures ∙ (λ j. total_key (c.middle-m.ensures j).z)) k)) ∙ overwrite-more (λ k. total_key (coordinate 2 (middle_of (corners_of (get_or a.faces.now k []))))) l.i a.kz.now (omega (arith, c.requires, c.before.before.before.before.before)),
+      (λ k. set (l.invariant.4 k) l.i ((c.total_key.ensures ∙ (λ j. total_key (c.middle-m.ensures j).x)) k)) ∙ overwrite-more (λ k. total_key (coordinate 0 (middle_of (corners_of (get_or a.faces.now k []))))) l.i a.kx.now (omega (arith, c.requires)),
+      (λ k. set (l.invariant.5 k) l.i ((c.total_key-in-loop-i.ensures ∙ (λ j. total_key (c.middle-m.ensures j).y)) k)) ∙ overwrite-more (λ k. total_key (coordinate 1 (middle_of (corners_of (get_or a.faces.now k []))))) l.i a.ky.now (omega (arith, c.requires)),
+      (λ k. set (l.invariant.6 k) l.i ((c.total_key-in-loop-i-2.ensures ∙ (λ j. total_key (c.middle-m.ensures j).z)) k)) ∙ overwrite-more (λ k. total_key (coordinate 2 (middle_of (corners_of (get_or a.faces.now k []))))) l.i a.kz.now (omega (arith, c.requires)),
     )
 
 pub shape_of-kx : goal.shape_of-kx

@@ -16,27 +16,18 @@ pub loop-i-init : goal.loop-i-init
 unfolding any_to
 loop-i-init c = (omega arith, refl, c.requires)
 
-pub offset_bounds-tris-i : goal.offset_bounds-tris-i
-offset_bounds-tris-i c = omega arith
-
-pub bounds-tris-i : goal.bounds-tris-i
-bounds-tris-i c = omega arith
-
-pub see_corners-requires : goal.see_corners-requires
-see_corners-requires c = tt
-
 pub overflow_add-i : goal.overflow_add-i
-overflow_add-i c = omega (arith, c.before.before.before.before.before)
+overflow_add-i c = omega arith
 
 pub loop-i-smaller : goal.loop-i-smaller
-loop-i-smaller c = omega (arith, c.before.before.before.before.before)
+loop-i-smaller c = omega arith
 
 pub loop-i-preserved : goal.loop-i-preserved
 loop-i-preserved c = let l = c.loop-i in
     let a = c.args in
     let t = get_or a.tris.now l.i [] in
     let m = length a.seen.now in (
-      omega (arith, c.before.before.before.before.before),
+      omega arith,
       c.see_corners.auto.seen ∙ l.invariant.1,
       c.see_corners.ensures
           ∙ ap (λ (s : List Bool). set (set (set s (get_or t 0 0) true) (get_or t 1 0) true) (get_or t 2 0) true) l.invariant.2

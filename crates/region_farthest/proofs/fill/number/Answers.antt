@@ -15,18 +15,6 @@ loop-i-init c = (omega arith, refl, sym (overwrite-none _ _))
 pub overflow_cast-order : goal.overflow_cast-order
 overflow_cast-order c = omega (arith, c.requires)
 
-pub offset_bounds-order-i : goal.offset_bounds-order-i
-offset_bounds-order-i c = omega arith
-
-pub bounds-order-i : goal.bounds-order-i
-bounds-order-i c = omega arith
-
-pub overflow_add-i : goal.overflow_add-i
-overflow_add-i c = omega arith
-
-pub loop-i-smaller : goal.loop-i-smaller
-loop-i-smaller c = omega arith
-
 pub loop-i-preserved : goal.loop-i-preserved
 loop-i-preserved c = let l = c.loop-i in
     (omega arith, simp length-set l.invariant.1, (λ k. set (l.invariant.2 k) l.i l.i) ∙ overwrite-more (λ k. k) l.i c.args.order.now (omega arith))
