@@ -27,7 +27,7 @@ data Across (f : ℕ) : ℕ → ℕ → Type 0 where
 -- the cell of a half step q, and its ends there
 record Cell (n q : ℕ) : Type 0 where
   f : ℕ
-  in_box_lem : f < n
+  fits_box : f < n
   ends : Across f (q / 2) ((q + 1) / 2)
 
 ends-are : (f a b lo hi : ℕ) → Across f a b → a ≡ lo → b ≡ hi → Across f lo hi
@@ -37,9 +37,9 @@ cell_of_lem : (n q : ℕ) → 0 < n → q ≤ 2 * n → Cell n q
 cell_of_lem n q p h = go (q / 2) (q % 2) refl (omega arith) (omega arith) (omega arith)
   where
     go : (lo r : ℕ) → lo ≡ q / 2 → lo + r ≡ (q + 1) / 2 → r < 2 → r + 2 * lo ≡ q → Cell n q
-    go zero zero a b c d = record { f = 0; in_box_lem = p; ends = ends-are 0 0 0 (q / 2) ((q + 1) / 2) near a (omega arith) }
-    go (suc lo) zero a b c d = record { f = lo; in_box_lem = omega arith; ends = ends-are lo (lo + 1) (lo + 1) (q / 2) ((q + 1) / 2) far (omega arith) (omega arith) }
-    go lo (suc r) a b c d = record { f = lo; in_box_lem = omega arith; ends = ends-are lo lo (lo + 1) (q / 2) ((q + 1) / 2) across a (omega arith) }
+    go zero zero a b c d = record { f = 0; fits_box = p; ends = ends-are 0 0 0 (q / 2) ((q + 1) / 2) near a (omega arith) }
+    go (suc lo) zero a b c d = record { f = lo; fits_box = omega arith; ends = ends-are lo (lo + 1) (lo + 1) (q / 2) ((q + 1) / 2) far (omega arith) (omega arith) }
+    go lo (suc r) a b c d = record { f = lo; fits_box = omega arith; ends = ends-are lo lo (lo + 1) (q / 2) ((q + 1) / 2) across a (omega arith) }
 
 -- ---- in a cell
 
@@ -138,4 +138,4 @@ point-met g p s h =
     let x = cell_of_lem g.nx p.i s.x h.x in
     let y = cell_of_lem g.ny p.j s.y h.y in
     let z = cell_of_lem g.nz p.k s.z h.z in
-    among-met g (corner x.f y.f z.f) (record { x = x.in_box_lem; y = y.in_box_lem; z = z.in_box_lem }) (below p) (above p) (among x.f y.f z.f x.ends y.ends z.ends)
+    among-met g (corner x.f y.f z.f) (record { x = x.fits_box; y = y.fits_box; z = z.fits_box }) (below p) (above p) (among x.f y.f z.f x.ends y.ends z.ends)

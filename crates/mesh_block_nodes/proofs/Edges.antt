@@ -98,6 +98,7 @@ pub data Member (x : Edge) : List Edge → Type 0 where
 
 member-met : (x : Edge) (xs l : List Edge) → Member x xs → met_before x (meet_all l xs) ≡ true
 unfolding meet_all
+member-met x [] l h = elim h [ ]
 member-met x (y ∷ xs) l here = (all-keeps (meet l x) xs).met x (meet-has l x)
 member-met x (y ∷ xs) l (there m) = member-met x xs (meet l y) m
 
