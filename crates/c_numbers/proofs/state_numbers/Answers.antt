@@ -1,7 +1,6 @@
 -- `state_numbers` meets its contract, field by field. Assumes nothing.
 use Rattle.c_numbers.proofs.state_numbers.Goals as goal
 use Rattle.c_numbers.specs.Flat.{state_numbers}
-use borrow.Author.Rules.{rules}
 
 pub returns : goal.returns
 unfolding state_numbers

@@ -1,7 +1,6 @@
 -- `state_of` meets its contract, field by field. Assumes nothing.
 use Rattle.c_numbers.proofs.state_of.Goals as goal
 use Rattle.c_numbers.specs.Flat.{state_of}
-use borrow.Author.Rules.{rules}
 
 pub returns : goal.returns
 unfolding state_of
