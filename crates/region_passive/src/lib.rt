@@ -27,7 +27,7 @@ pub fn passive(
     place: &mut [u32],
     first: &mut [u32],
 ) -> u32
-    ensures { Marked (record { nodes = nodes.entry.now; tets = tets.now; tris = tris.now; surfaces = surfaces.now; held = held.now; loaded = loaded.now; starts = starts.now; kept = kept.now; depths = depths.now }) (record { marks = marks.entry.now; keep = keep.old; centroids = centroids.old; cells = cells.old; order = order.old; place = place.old; first = first.old }) (record { marks = marks.exit.now; keep = keep.new; centroids = centroids.new; cells = cells.new; order = order.new; place = place.new; first = first.new }) result }
+    ensures { Marked (record { nodes = nodes.now; tets = tets.now; tris = tris.now; surfaces = surfaces.now; held = held.now; loaded = loaded.now; starts = starts.now; kept = kept.now; depths = depths.now }) (record { marks = marks.old; keep = keep.old; centroids = centroids.old; cells = cells.old; order = order.old; place = place.old; first = first.old }) (record { marks = marks.new; keep = keep.new; centroids = centroids.new; cells = cells.new; order = order.new; place = place.new; first = first.new }) result }
 {
     let short = region_passive_checks::too_short(
         nodes.len(),

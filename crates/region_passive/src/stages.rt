@@ -35,7 +35,7 @@ fn by_depths(
     marks: &mut [bool],
 )
     requires { Sized (length centroids.now) (length tris.now) (length depths.now) (length surfaces.now) (length starts.now) (length marks.old) (length cells.old) (length order.old) (length place.old) (length first.old) }
-    ensures { marks.new ≡ deepened_to (record { nodes = nodes.entry.now; tets = []; tris = tris.now; surfaces = surfaces.now; held = []; loaded = []; starts = starts.now; kept = kept.now; depths = depths.now }) centroids.now (length depths.now) marks.old }
+    ensures { marks.new ≡ deepened_to (record { nodes = nodes.now; tets = []; tris = tris.now; surfaces = surfaces.now; held = []; loaded = []; starts = starts.now; kept = kept.now; depths = depths.now }) centroids.now (length depths.now) marks.old }
 {
     let n = depths.len();
     let mut s = 0usize;
@@ -70,8 +70,8 @@ fn mark(
     place: &mut [u32],
     first: &mut [u32],
 )
-    requires { Fitting (record { nodes = nodes.now; tets = tets.now; tris = tris.now; surfaces = surfaces.now; held = held.now; loaded = loaded.now; starts = starts.now; kept = kept.now; depths = depths.now }) (record { marks = marks.now; keep = keep.old; centroids = centroids.old; cells = cells.old; order = order.old; place = place.old; first = first.old }) }
-    ensures { marks.new ≡ tabulate (passive_at (record { nodes = nodes.entry.now; tets = tets.now; tris = tris.now; surfaces = surfaces.now; held = held.now; loaded = loaded.now; starts = starts.now; kept = kept.now; depths = depths.now })) (length tets.now) }
+    requires { Fitting (record { nodes = nodes.now; tets = tets.now; tris = tris.now; surfaces = surfaces.now; held = held.now; loaded = loaded.now; starts = starts.now; kept = kept.now; depths = depths.now }) (record { marks = marks.old; keep = keep.old; centroids = centroids.old; cells = cells.old; order = order.old; place = place.old; first = first.old }) }
+    ensures { marks.new ≡ tabulate (passive_at (record { nodes = nodes.now; tets = tets.now; tris = tris.now; surfaces = surfaces.now; held = held.now; loaded = loaded.now; starts = starts.now; kept = kept.now; depths = depths.now })) (length tets.now) }
 {
     region_by_nodes::by_nodes(
         tets,
@@ -113,9 +113,9 @@ pub fn mark_front(
     place: &mut [u32],
     first: &mut [u32],
 )
-    requires { Roomy (record { nodes = nodes.now; tets = tets.now; tris = tris.now; surfaces = surfaces.now; held = held.now; loaded = loaded.now; starts = starts.now; kept = kept.now; depths = depths.now }) (record { marks = marks.now; keep = keep.old; centroids = centroids.old; cells = cells.old; order = order.old; place = place.old; first = first.old }) }
-    ensures marks_after { marks.new ≡ overwrite (passive_at (record { nodes = nodes.entry.now; tets = tets.now; tris = tris.now; surfaces = surfaces.now; held = held.now; loaded = loaded.now; starts = starts.now; kept = kept.now; depths = depths.now })) (length tets.now) marks.old }
-    ensures past { Past (record { nodes = nodes.entry.now; tets = tets.now; tris = tris.now; surfaces = surfaces.now; held = held.now; loaded = loaded.now; starts = starts.now; kept = kept.now; depths = depths.now }) (record { marks = marks.entry.now; keep = keep.old; centroids = centroids.old; cells = cells.old; order = order.old; place = place.old; first = first.old }) (record { marks = marks.exit.now; keep = keep.new; centroids = centroids.new; cells = cells.new; order = order.new; place = place.new; first = first.new }) }
+    requires { Roomy (record { nodes = nodes.now; tets = tets.now; tris = tris.now; surfaces = surfaces.now; held = held.now; loaded = loaded.now; starts = starts.now; kept = kept.now; depths = depths.now }) (record { marks = marks.old; keep = keep.old; centroids = centroids.old; cells = cells.old; order = order.old; place = place.old; first = first.old }) }
+    ensures marks_after { marks.new ≡ overwrite (passive_at (record { nodes = nodes.now; tets = tets.now; tris = tris.now; surfaces = surfaces.now; held = held.now; loaded = loaded.now; starts = starts.now; kept = kept.now; depths = depths.now })) (length tets.now) marks.old }
+    ensures past { Past (record { nodes = nodes.now; tets = tets.now; tris = tris.now; surfaces = surfaces.now; held = held.now; loaded = loaded.now; starts = starts.now; kept = kept.now; depths = depths.now }) (record { marks = marks.old; keep = keep.old; centroids = centroids.old; cells = cells.old; order = order.old; place = place.old; first = first.old }) (record { marks = marks.new; keep = keep.new; centroids = centroids.new; cells = cells.new; order = order.new; place = place.new; first = first.new }) }
 {
     let n = tets.len();
     let m = n + 1usize;
