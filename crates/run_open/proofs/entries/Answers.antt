@@ -1,6 +1,5 @@
 -- `run_open::entries` meets its contract. Assumes nothing.
 use Rattle.run_open.proofs.entries.Goals as goal
-use borrow.Author.Rules.{rules}
 use native.Mathlib.Omega.{arith}
 
 pub overflow_cast-result : goal.overflow_cast-result
