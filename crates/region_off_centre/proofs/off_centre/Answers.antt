@@ -24,17 +24,17 @@ unfolding lowest highest fold_to div of_bits neg
 loop-i-init c = (omega arith, refl, refl)
 
 pub overflow_add-i : goal.overflow_add-i
-overflow_add-i c = omega (arith, c.before.before.before.before.before)
+overflow_add-i c = omega arith
 
 pub loop-i-smaller : goal.loop-i-smaller
-loop-i-smaller c = omega (arith, c.before.before.before.before.before)
+loop-i-smaller c = omega arith
 
 pub loop-i-preserved : goal.loop-i-preserved
 unfolding lowest highest
 loop-i-preserved c = let a = c.args in
     let l = c.loop-i in
     let d = c.reach-d.ensures ∙ ap (reach_of a.mirror) c.point.ensures in (
-      omega (arith, c.before.before.before.before.before),
+      omega arith,
       c.min-lo.ensures ∙ (λ i. min_of (l.invariant.1 i) (d i)) ∙ fold_to-more (λ k lo. min_of lo (reach_of a.mirror (point (get_or a.points.now k [])))) _ l.i,
       c.max-hi.ensures ∙ (λ i. max_of (l.invariant.2 i) (d i)) ∙ fold_to-more (λ k hi. max_of hi (reach_of a.mirror (point (get_or a.points.now k [])))) _ l.i,
     )
