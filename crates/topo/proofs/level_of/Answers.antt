@@ -10,8 +10,10 @@ use native.Mathlib.Omega.{arith}
 
 pub overflow_cast-result : goal.overflow_cast-result
 unfolding level_of
-overflow_cast-result c = omega (arith, (let h : c.round_half_away.result ≡ level_of c.args.x = c.round_half_away.ensures ∙ ap (λ (y : Float). round_half_away (mul binary64 y (whole64 1000))) c.clamp.ensures in h), level-most c.args.x)
+overflow_cast-result c =
+    let h : c.round_half_away.result ≡ level_of c.args.x = c.round_half_away.ensures ∙ ap (λ (y : Float). round_half_away (mul binary64 y (whole64 1000))) c.clamp.ensures in
+    omega (arith, level-most c.args.x)
 
 pub returns : goal.returns
 unfolding level_of
-returns c = (let h : c.round_half_away.result ≡ level_of c.args.x = c.round_half_away.ensures ∙ ap (λ (y : Float). round_half_away (mul binary64 y (whole64 1000))) c.clamp.ensures in h)
+returns c = c.round_half_away.ensures ∙ ap (λ (y : Float). round_half_away (mul binary64 y (whole64 1000))) c.clamp.ensures
