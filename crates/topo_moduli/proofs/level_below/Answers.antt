@@ -5,7 +5,7 @@ use Rattle.topo_moduli.proofs.Levels.{ends, above, below-is, below_none}
 use Rattle.topo_moduli.proofs.level_below.Goals as goal
 use Rattle.topo_moduli.specs.Moduli.{inside}
 use lib.Ieee.{Float, le}
-use mathlib.Core.Bool.{true, false}
+use mathlib.Core.Bool.{true, false, not}
 use mathlib.Core.Path.{◌≡◌, sym, ap, ◌∙◌}
 use native.Mathlib.Omega.{arith}
 
@@ -16,11 +16,13 @@ pub modulus_at-requires-2 : goal.modulus_at-requires-2
 modulus_at-requires-2 c = omega arith
 
 pub returns-then-outside : goal.returns-then-outside
-returns-then-outside c = below_none c.args.x (ends c.args.x c.modulus_at.result c.modulus_at-2.result false c.modulus_at.ensures c.modulus_at-2.ensures c.if-outside.true-raw)
+returns-then-outside c = below_none c.args.x (ends c.args.x c.modulus_at.result c.modulus_at-2.result false c.modulus_at.ensures c.modulus_at-2.ensures (ap not c.if-outside.true))
 
 pub loop-high-init : goal.loop-high-init
 unfolding inside
-loop-high-init c = (omega arith, omega arith, (both _ _ ((let h : inside c.args.x ≡ true = ends c.args.x c.modulus_at.result c.modulus_at-2.result true c.modulus_at.ensures c.modulus_at-2.ensures c.if-outside.false-raw in h))).0, λ k a b. absurd (omega arith))
+loop-high-init c =
+    let h : inside c.args.x ≡ true = ends c.args.x c.modulus_at.result c.modulus_at-2.result true c.modulus_at.ensures c.modulus_at-2.ensures (ap not c.if-outside.false) in
+    (omega arith, omega arith, (both _ _ h).0, λ k a b. absurd (omega arith))
 
 pub overflow_sub-high : goal.overflow_sub-high
 overflow_sub-high c = omega arith
@@ -50,4 +52,6 @@ pub overflow_cast-level : goal.overflow_cast-level
 overflow_cast-level c = omega arith
 
 pub returns : goal.returns
-returns c = below-is c.args.x c.loop-high.low ((let h : inside c.args.x ≡ true = ends c.args.x c.modulus_at.result c.modulus_at-2.result true c.modulus_at.ensures c.modulus_at-2.ensures c.if-outside.false-raw in h)) (omega arith) c.loop-high.invariant.2 (λ k a b. c.loop-high.invariant.3 k (omega arith) b)
+returns c =
+    let h : inside c.args.x ≡ true = ends c.args.x c.modulus_at.result c.modulus_at-2.result true c.modulus_at.ensures c.modulus_at-2.ensures (ap not c.if-outside.false) in
+    below-is c.args.x c.loop-high.low h (omega arith) c.loop-high.invariant.2 (λ k a b. c.loop-high.invariant.3 k (omega arith) b)
