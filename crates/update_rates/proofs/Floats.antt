@@ -137,7 +137,7 @@ sub-grows f m e p q n d h k =
 -- ---- a difference of two values that differ is no zero: both are whole numbers of the least value
 least-gap : (A t B s Z x y : ℕ) → 0 < Z → A * Z ≡ x * t → B * Z ≡ y * s → B * t < A * s → 1 * (t * s) ≤ (A * s - B * t) * Z
 least-gap A t B s Z x y z ea eb h =
-    let p : A * s * Z ≡ x * (t * s) = simp (mul_assoc, mul_comm, mul_left_comm) (simp (mul_assoc, mul_comm, mul_left_comm) at (ap (λ (k : ℕ). k * s) ea)) in
+    let p : A * s * Z ≡ x * (t * s) = simp (mul_assoc, mul_comm, mul_left_comm) (simp (mul_assoc, mul_comm) at (ap (λ (k : ℕ). k * s) ea)) in
     let q : B * t * Z ≡ y * (t * s) = simp (mul_assoc, mul_comm, mul_left_comm) (simp (mul_assoc, mul_comm, mul_left_comm) at (ap (λ (k : ℕ). k * t) eb)) in
     let gap : y < x = go (ltb y x) refl p q in
     le_trans (mul-le-mul_right (t * s) (let o : 1 ≤ x - y = omega arith in o))
