@@ -19,20 +19,21 @@ pub overflow_cast-j : goal.overflow_cast-j
 overflow_cast-j c = omega (arith, c.type_inv.near c.loop-k.k)
 
 pub offset_bounds-x-j : goal.offset_bounds-x-j
-offset_bounds-x-j c = omega (arith, (let h : get_or c.args.near.now c.loop-k.k 0 < length c.args.x.now = c.requires.0.inside c.loop-k.k (omega arith) in h))
+offset_bounds-x-j c = omega (arith, c.requires.0.inside c.loop-k.k (omega arith))
 
 pub bounds-x-j : goal.bounds-x-j
-bounds-x-j c = (let h : get_or c.args.near.now c.loop-k.k 0 < length c.args.x.now = c.requires.0.inside c.loop-k.k (omega arith) in h)
+bounds-x-j c = c.requires.0.inside c.loop-k.k (omega arith)
 
 pub offset_bounds-y-j : goal.offset_bounds-y-j
-offset_bounds-y-j c = omega (arith, (let h : get_or c.args.near.now c.loop-k.k 0 < length c.args.x.now = c.requires.0.inside c.loop-k.k (omega arith) in h))
+offset_bounds-y-j c = omega (arith, c.requires.0.inside c.loop-k.k (omega arith))
 
 pub bounds-y-j : goal.bounds-y-j
-bounds-y-j c = omega (arith, (let h : get_or c.args.near.now c.loop-k.k 0 < length c.args.x.now = c.requires.0.inside c.loop-k.k (omega arith) in h), c.requires.1)
+bounds-y-j c = omega (arith, c.requires.0.inside c.loop-k.k (omega arith), c.requires.1)
 
 pub loop-k-preserved : goal.loop-k-preserved
 unfolding product
-loop-k-preserved c = let l = c.loop-k in
+loop-k-preserved c =
+    let l = c.loop-k in
     let a = c.args in
     let h : get_or c.args.near.now c.loop-k.k 0 < length c.args.x.now = c.requires.0.inside c.loop-k.k (omega arith) in (
       search rules,
@@ -43,7 +44,8 @@ loop-k-preserved c = let l = c.loop-k in
 
 pub returns : goal.returns
 unfolding row_sum
-returns c = let a = c.args in
+returns c =
+    let a = c.args in
     let w = c.requires.0 in
     let l = c.loop-k in
     let e = row_end-within a.near.now a.coef.now a.from a.to w.order w.room w.room-coef in
