@@ -1,7 +1,6 @@
 -- `answer` meets its contract: that of `answer_core`, with the state and what was heard by their numbers, after the test of the numbers. Assumes nothing.
 use Rattle.c_calls.proofs.answer.Goals as goal
 use Rattle.c_numbers.proofs.Laws.{answered_as, not-answered}
-use borrow.Author.Rules.{rules}
 
 pub returns-then-unknown : goal.returns-then-unknown
 returns-then-unknown c = not-answered _ _ c.unknown.ensures c.if-unknown.true _ _ _ _ _ c.unrecorded.ensures
@@ -32,6 +31,6 @@ shape_of-dv c = c.answer_core-s.auto.dv
 
 pub returns : goal.returns
 returns c = let a = c.args in
-    answered_as _ _ c.unknown.ensures c.if-unknown.left _ c.state_of.ensures
+    answered_as _ _ c.unknown.ensures c.if-unknown.false _ c.state_of.ensures
     (λ heard. record { heard = heard; energies = a.energies.now })
     _ _ c.heard_of.ensures _ _ _ _ _ _ _ c.step_numbers.ensures c.answer_core-s.ensures

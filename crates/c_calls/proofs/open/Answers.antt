@@ -1,7 +1,6 @@
 -- `open` meets its contract: that of `open_core`, with the state and the goal by their numbers, after the tests of the numbers. Assumes nothing.
 use Rattle.c_calls.proofs.open.Goals as goal
 use Rattle.c_numbers.proofs.Laws.{opened_as, not_opened}
-use borrow.Author.Rules.{rules}
 
 pub returns-then-t : goal.returns-then-t
 returns-then-t c = not_opened _ _ _ _ c.unknown.ensures c.no_goal.ensures c.if-t.true _ _ _ _ _ c.refused.ensures
@@ -47,6 +46,6 @@ shape_of-bits c = c.open_core-r.auto.bits
 
 pub returns : goal.returns
 returns c = let a = c.args in
-    opened_as _ _ _ _ c.unknown.ensures c.no_goal.ensures c.if-t.left _ c.state_of.ensures
+    opened_as _ _ _ _ c.unknown.ensures c.no_goal.ensures c.if-t.false _ c.state_of.ensures
     (λ goal. record { centroids = a.centroids.now; mirrors = a.mirrors.now; goal = goal; flag = a.flag })
     _ _ c.goal_of.ensures _ _ _ _ _ _ _ c.returned_numbers.ensures c.open_core-r.ensures
