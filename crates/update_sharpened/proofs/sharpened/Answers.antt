@@ -46,8 +46,9 @@ returns-then-well g c =
     let a = c.args in
     let w : Given = given a.x.now a.gain.now a.dv.now a.passive.now a.m a.target a.tolerance (Sharpened a.beta) a.starts.now a.near.now a.coef.now a.volumes.now in
     let k = c.kept-v.ensures.0 ∙ ap (reckoned w) c.design_at.ensures in
+    let kept : c.search-t.result.kept ≡ reckoned w c.design_at-then-well-2.new.out = c.search-t.ensures.1 ∙ ap (reckoned w) (sym c.design_at-then-well-2.ensures) in
     let first : a.first ≡ first_rate w = rw c.requires.0 c.requires.1.1 in
-    rw (← c.requires.0) (λ h. searched w a.first _ _ _ _ _ _ first (sym (ap (lt a.target) k) ∙ c.if-more.false) c.search-t.ensures.0 c.design_at-then-well-2.ensures (c.search-t.ensures.1 ∙ ap (reckoned w) (sym c.design_at-then-well-2.ensures)))
+    rw (← c.requires.0) (λ h. searched w a.first _ _ _ _ _ _ first (sym (ap (lt a.target) k) ∙ c.if-more.false) c.search-t.ensures.0 c.design_at-then-well-2.ensures kept)
 
 pub returns : goal.returns
 returns g c =
