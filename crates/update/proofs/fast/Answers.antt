@@ -3,6 +3,7 @@ use Rattle.oc_kept.specs.declared.Rule.{Rule}
 use Rattle.update.proofs.Same.{first-same, updated-same}
 use Rattle.update.proofs.fast.Goals as goal
 use Rattle.update_rates.specs.Rates.{given, first_rate, updated}
+use Rattle.oc_kept.specs.declared.Rule.TheVariants.{Sharpened}
 use mathlib.Core.Path.{◌≡◌, refl, sym, ap, ◌∙◌}
 
 pub straight-requires : goal.straight-requires
@@ -18,7 +19,7 @@ sharpened-requires g c =
     let first : a.first ≡ first_rate (given a.x.now a.gain.now a.dv.now a.passive.now a.m a.target a.tolerance a.rule a.starts.now a.near.now a.coef.now a.volumes.now) = rw c.requires.0 c.requires.1.1 in
     let is = ap (λ (r : Rule). first_rate (given a.x.now a.gain.now a.dv.now a.passive.now a.m a.target a.tolerance r a.starts.now a.near.now a.coef.now a.volumes.now)) c.in-Sharpened.is in
     let p = c.requires.1.0 in
-    (refl, ((p.0, p.2, p.3, p.4), first ∙ is))
+    (refl {a = given a.x.now a.gain.now a.dv.now a.passive.now a.m a.target a.tolerance (Sharpened c.in-Sharpened.beta) a.starts.now a.near.now a.coef.now a.volumes.now}, ((p.0, p.2, p.3, p.4), first ∙ is))
 
 pub returns-in-Straight : goal.returns-in-Straight
 returns-in-Straight g c =

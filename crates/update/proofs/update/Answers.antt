@@ -35,8 +35,9 @@ returns-then-passes-gt0 c = let a = c.args in
 pub every-at-requires : goal.every-at-requires
 unfolding first_rate
 every-at-requires c =
+    let a = c.args in
     let q = c.fast-at.auto in
-    (refl, ((c.gains.auto.gain ∙ c.requires.4, c.requires.1, c.requires.2, q.design ∙ c.requires.3, q.work ∙ c.requires.5), c.first_rate-first.ensures ∙ ap rated c.most.ensures))
+    (refl {a = given a.x.now c.gains.new.gain a.dv.now a.passive.now a.m a.target a.tolerance a.rule a.starts.now a.near.now a.coef.now a.volumes.now}, ((c.gains.auto.gain ∙ c.requires.4, c.requires.1, c.requires.2, q.design ∙ c.requires.3, q.work ∙ c.requires.5), c.first_rate-first.ensures ∙ ap rated c.most.ensures))
 
 pub shape_of-design : goal.shape_of-design
 shape_of-design c = c.every-at.auto.design ∙ c.fast-at.auto.design
