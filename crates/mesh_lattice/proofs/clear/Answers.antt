@@ -17,8 +17,5 @@ loop-k-preserved c = let inv = c.loop-k.invariant in
     let k = c.loop-k.k in
     (omega arith, length-set c.loop-k.edges k 0 ∙ inv.1, ap (λ (l : List ℕ). set l k 0) inv.2 ∙ overwrite-more (λ j. 0) k c.args.edges.now (omega arith))
 
-pub shape_of-edges : goal.shape_of-edges
-shape_of-edges c = c.loop-k.invariant.1
-
 pub returns : goal.returns
 returns c = c.loop-k.invariant.2 ∙ ap (λ (n : ℕ). overwrite (λ j. 0) n c.args.edges.now) (le_antisymm c.loop-k.invariant.0 c.loop-k-test.false)

@@ -67,9 +67,6 @@ overflow_cast-tets-in-loop-e-3 c =
     let four = inside _ _ _ _ c.requires.small c.tet_count-n.ensures c.loop-e-test.true c.corners-f.ensures in
     omega (arith, below c.args.g c.corners-f.result.d c.number-d.result four.d c.number-d.ensures, c.requires.small.corners)
 
-pub bounds-tets-e : goal.bounds-tets-e
-bounds-tets-e c = omega (arith, c.tet_count-n.ensures, tets-long _ _ _ _ c.requires _ _ _ c.loop-e.invariant, c.requires.places)
-
 pub loop-e-preserved : goal.loop-e-preserved
 loop-e-preserved c =
     let g = c.args.g in
@@ -86,9 +83,6 @@ shape_of-nodes c = nodes-long _ _ _ _ c.requires _ _ _ c.loop-e.invariant
 
 pub shape_of-tets : goal.shape_of-tets
 shape_of-tets c = tets-long _ _ _ _ c.requires _ _ _ c.loop-e.invariant
-
-pub shape_of-edges : goal.shape_of-edges
-shape_of-edges c = c.loop-e.invariant.filed.long
 
 pub returns : goal.returns
 returns c =

@@ -13,27 +13,12 @@ use mathlib.Core.List.{[]}
 use mathlib.Core.Path.{◌≡◌, refl, ap, sym, ◌∙◌, subst}
 use native.Mathlib.Omega.{arith}
 
-pub corner_count-n-requires : goal.corner_count-n-requires
-corner_count-n-requires c = c.requires.0
-
 pub loop-k-init : goal.loop-k-init
 loop-k-init c = (omega arith, refl, sym (overwrite-none _ _))
-
-pub corner_at-requires : goal.corner_at-requires
-corner_at-requires c = c.requires.0
 
 pub place-p-requires : goal.place-p-requires
 place-p-requires c = let h : c.loop-k.k < corners_in c.args.g = omega (arith, c.corner_count-n.ensures) in
     (c.requires.0, subst (Inside c.args.g) (sym c.corner_at.ensures) (corner-inside _ _ h))
-
-pub offset_bounds-nodes-k : goal.offset_bounds-nodes-k
-offset_bounds-nodes-k c = omega (arith, c.corner_count-n.ensures, c.requires.0.corners)
-
-pub bounds-nodes-k : goal.bounds-nodes-k
-bounds-nodes-k c = omega (arith, c.corner_count-n.ensures, c.requires.1)
-
-pub overflow_add-k : goal.overflow_add-k
-overflow_add-k c = omega (arith, c.corner_count-n.ensures, c.requires.0.corners)
 
 pub loop-k-preserved : goal.loop-k-preserved
 loop-k-preserved c = let inv = c.loop-k.invariant in
@@ -45,9 +30,6 @@ loop-k-preserved c = let inv = c.loop-k.invariant in
       (λ i. set (inv.2 i) k ((ap stored (c.place-p.ensures ∙ ap (place_of g) c.corner_at.ensures) ∙ sym (node-corner g [] k h)) i))
           ∙ overwrite-more (node_with g []) k c.args.nodes.now (omega (arith, c.requires.1)),
     )
-
-pub shape_of-nodes : goal.shape_of-nodes
-shape_of-nodes c = c.loop-k.invariant.1
 
 pub returns : goal.returns
 returns c = let all : c.loop-k.k ≡ corners_in c.args.g = omega (arith, c.corner_count-n.ensures, c.loop-k.invariant.0, c.loop-k-test.false) in
