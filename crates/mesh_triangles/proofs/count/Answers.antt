@@ -39,9 +39,6 @@ overflow_add-t-in-loop-e-2 c = omega (arith, one_most _ c.one.result c.one.ensur
 pub overflow_add-t-in-loop-e-3 : goal.overflow_add-t-in-loop-e-3
 overflow_add-t-in-loop-e-3 c = omega (arith, one_most _ c.one.result c.one.ensures, one_most _ c.one-in-loop-e.result c.one-in-loop-e.ensures, one_most _ c.one-in-loop-e-2.result c.one-in-loop-e-2.ensures, one_most _ c.one-in-loop-e-3.result c.one-in-loop-e-3.ensures, c.tet_count-n.ensures, c.loop-e.invariant.2, c.requires.few)
 
-pub overflow_add-e : goal.overflow_add-e
-overflow_add-e c = omega (arith, c.tet_count-n.ensures, c.requires.few)
-
 pub loop-e-preserved : goal.loop-e-preserved
 loop-e-preserved c =
     let g = c.args.g in

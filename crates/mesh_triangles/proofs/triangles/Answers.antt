@@ -21,12 +21,6 @@ loop-e-init c = (omega arith, placed-none _ _)
 pub corners-requires : goal.corners-requires
 corners-requires c = (c.requires.small, omega (arith, c.tet_count-n.ensures))
 
-pub offset_bounds-tets-e : goal.offset_bounds-tets-e
-offset_bounds-tets-e c = omega (arith, c.tet_count-n.ensures, c.requires.small.few)
-
-pub bounds-tets-e : goal.bounds-tets-e
-bounds-tets-e c = omega (arith, c.tet_count-n.ensures, c.requires.places)
-
 pub put_faces-at-requires : goal.put_faces-at-requires
 put_faces-at-requires c =
     let here : c.loop-e.e < tets_in c.args.g = omega (arith, c.tet_count-n.ensures) in
