@@ -4,9 +4,6 @@ use Rattle.region_cells.proofs.cell_size.Goals as goal
 use Rattle.region_cells.specs.Depth.{cell_size}
 use mathlib.Core.Path.{ap, ◌∙◌}
 
-pub longest-requires : goal.longest-requires
-longest-requires c = c.requires
-
 pub returns : goal.returns
 unfolding cell_size
 returns c = c.max.ensures ∙ ap (max_of c.args.depth) c.longest.ensures

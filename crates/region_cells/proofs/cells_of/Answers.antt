@@ -22,9 +22,6 @@ loop-i-preserved c = let l = c.loop-i in
     rw (c.cell_number.ensures, c.cell_number-in-loop-i.ensures, c.cell_number-in-loop-i-2.ensures) in
     (omega arith, simp length-set l.invariant.1, ap (set l.cells l.i) e ∙ rw l.invariant.2 (overwrite-more _ _ _ (omega arith)))
 
-pub shape_of-cells : goal.shape_of-cells
-shape_of-cells c = c.loop-i.invariant.1
-
 pub returns : goal.returns
 returns c = let a = c.args in
     let l = c.loop-i in

@@ -10,9 +10,6 @@ use native.Mathlib.Omega.{arith}
 pub loop-t-init : goal.loop-t-init
 loop-t-init c = (omega arith, sym (fold_to-none _ _))
 
-pub in_set-requires : goal.in_set-requires
-in_set-requires c = c.requires.1
-
 pub loop-t-preserved-then-in_set : goal.loop-t-preserved-then-in_set
 unfolding in_set
 loop-t-preserved-then-in_set c = let l = c.loop-t in
