@@ -2,14 +2,10 @@
 use Prim.Native.Nat.{◌-◌, ◌≤◌, min}
 use Rattle.capi.proofs.sokdrib_dist2_each.Given as goal
 use Rattle.capi.specs.Each.{dist2_of}
-use Rattle.lists.proofs.Laws.{overwrite-none, overwrite-more}
 use Rattle.lists.specs.Lists.{overwrite}
-use borrow.Author.Rules.{rules}
 use lib.ListN.{length, get_or}
 use mathlib.Core.List.{[]}
-use mathlib.Core.Path.{◌≡◌, refl, sym}
-use native.Mathlib.Nat.{le_antisymm}
-use native.Mathlib.Omega.{arith}
+use mathlib.Core.Path.{◌≡◌}
 
 abbrev pub invariant-loop-k : goal.invariant-loop-k
 invariant-loop-k l = (l.k ≤ l.n) × (l.n ≡ min (min (length l.points) (length l.triangles)) (length l.initial.out)) × (length l.out ≡ length l.initial.out) × (l.out ≡ overwrite (λ j. dist2_of (get_or l.points j []) (get_or l.triangles j [])) l.k l.initial.out)

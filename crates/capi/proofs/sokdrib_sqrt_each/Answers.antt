@@ -1,13 +1,8 @@
 -- `sokdrib_sqrt_each` meets its contract. The invariant: the first i places hold the roots, and the rest is as lent. Assumes nothing.
-use Prim.Native.Nat.{◌-◌, ◌≤◌, min}
 use Rattle.capi.proofs.sokdrib_sqrt_each.Goals as goal
-use Rattle.ieee_root.specs.Sqrt.{sqrt_of}
 use Rattle.lists.proofs.Laws.{overwrite-none, overwrite-more}
-use Rattle.lists.specs.Lists.{overwrite}
 use borrow.Author.Rules.{rules}
-use lib.Ieee.{binary64, nan}
-use lib.ListN.{length, get_or}
-use mathlib.Core.Path.{◌≡◌, refl, sym}
+use mathlib.Core.Path.{refl, sym}
 use native.Mathlib.Nat.{le_antisymm}
 use native.Mathlib.Omega.{arith}
 

@@ -2,14 +2,10 @@
 use Prim.Native.Nat.{◌-◌, ◌≤◌, min}
 use Rattle.capi.proofs.sokdrib_sqrt_each.Given as goal
 use Rattle.ieee_root.specs.Sqrt.{sqrt_of}
-use Rattle.lists.proofs.Laws.{overwrite-none, overwrite-more}
 use Rattle.lists.specs.Lists.{overwrite}
-use borrow.Author.Rules.{rules}
 use lib.Ieee.{binary64, nan}
 use lib.ListN.{length, get_or}
-use mathlib.Core.Path.{◌≡◌, refl, sym}
-use native.Mathlib.Nat.{le_antisymm}
-use native.Mathlib.Omega.{arith}
+use mathlib.Core.Path.{◌≡◌}
 
 abbrev pub invariant-loop-i : goal.invariant-loop-i
 invariant-loop-i l = (l.i ≤ l.n) × (l.n ≡ min (length l.xs) (length l.initial.out)) × (length l.out ≡ length l.initial.out) × (l.out ≡ overwrite (λ k. sqrt_of binary64 (get_or l.xs k nan)) l.i l.initial.out)

@@ -1,7 +1,6 @@
 -- `refusal` meets its contract: that of `first`, twice. Assumes nothing.
 use Rattle.capi.proofs.lengths.refusal.Goals as goal
 use Rattle.lists.specs.Lists.{choose}
-use borrow.Author.Rules.{rules}
 use mathlib.Core.Path.{ap, ◌∙◌}
 
 pub returns : goal.returns

@@ -1,7 +1,6 @@
 -- `sokdrib_level_below` meets its contract, by those of the two functions that it calls. Assumes nothing.
 use Rattle.capi.proofs.levels.sokdrib_level_below.Goals as goal
 use Rattle.topo_moduli.specs.Moduli.{numbers_of}
-use borrow.Author.Rules.{rules}
 use mathlib.Core.Path.{ap, ◌∙◌}
 
 pub returns : goal.returns

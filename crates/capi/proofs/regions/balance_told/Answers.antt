@@ -1,7 +1,6 @@
 -- `balance_told` meets its contract, number by number. Assumes nothing.
 use Rattle.capi.proofs.regions.balance_told.Goals as goal
 use Rattle.capi.specs.Regions.{balance_told}
-use borrow.Author.Rules.{rules}
 
 pub returns : goal.returns
 unfolding balance_told

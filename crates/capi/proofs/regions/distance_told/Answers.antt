@@ -1,7 +1,6 @@
 -- `distance_told` meets its contract, number by number. Assumes nothing.
 use Rattle.capi.proofs.regions.distance_told.Goals as goal
 use Rattle.capi.specs.Regions.{distance_told}
-use borrow.Author.Rules.{rules}
 
 pub returns : goal.returns
 unfolding distance_told

@@ -1,6 +1,5 @@
 -- `sokdrib_asymmetry` meets its contract: that of `asymmetry`, with its answer by its numbers. Assumes nothing.
 use Rattle.capi.proofs.regions.sokdrib_asymmetry.Goals as goal
-use borrow.Author.Rules.{rules}
 
 pub returns : goal.returns
 returns c = let d = c.asymmetry-d in

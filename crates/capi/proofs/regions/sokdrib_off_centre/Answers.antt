@@ -1,7 +1,6 @@
 -- `sokdrib_off_centre` meets its contract: what is answered, by its numbers. Assumes nothing.
 use Rattle.capi.proofs.regions.sokdrib_off_centre.Goals as goal
 use Rattle.capi.specs.Regions.{balance_told}
-use borrow.Author.Rules.{rules}
 use mathlib.Core.Path.{ap, ◌∙◌}
 
 pub returns : goal.returns

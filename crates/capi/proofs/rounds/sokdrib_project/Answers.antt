@@ -1,7 +1,6 @@
 -- `sokdrib_project` meets its contract by those of `at_steepness` and `project`. Assumes nothing.
 use Rattle.capi.proofs.rounds.sokdrib_project.Goals as goal
 use Rattle.oc_project.specs.Project.{below_of, whole_of}
-use borrow.Author.Rules.{rules}
 use mathlib.Core.Path.{sym, ap, ◌∙◌}
 
 pub project-p-requires : goal.project-p-requires

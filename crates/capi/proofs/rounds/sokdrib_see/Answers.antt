@@ -1,7 +1,6 @@
 -- `sokdrib_see` meets its contract: what the lengths tell, and `see` over front parts of the lists. Assumes nothing.
 use Rattle.capi.proofs.Fronts.{two-fit, kept, written}
 use Rattle.capi.proofs.rounds.sokdrib_see.Goals as goal
-use borrow.Author.Rules.{rules}
 use lib.ListN.{length}
 use lib.Seq.{length-take-le}
 use mathlib.Core.Path.{refl, sym, ◌∙◌}

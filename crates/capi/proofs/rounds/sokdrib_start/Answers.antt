@@ -2,7 +2,6 @@
 use Rattle.capi.proofs.Fronts.{accepted, same_count, two-fit, kept, written}
 use Rattle.capi.proofs.rounds.sokdrib_start.Goals as goal
 use Rattle.lent.proofs.Lent.{unless-refused, unless-accepted}
-use borrow.Author.Rules.{rules}
 use lib.ListN.{length}
 use lib.Seq.{length-take-le}
 use mathlib.Core.Path.{refl, sym, ◌∙◌}

@@ -3,7 +3,6 @@ use Rattle.capi.proofs.Fronts.{accepted, same_count, two-fit, kept, written}
 use Rattle.capi.proofs.rounds.sokdrib_work_slope.Goals as goal
 use Rattle.lent.proofs.Lent.{worked_same, worked-front}
 use Rattle.lists.proofs.Laws.{neither}
-use borrow.Author.Rules.{rules}
 use lib.ListN.{length}
 use lib.Seq.{length-take-le}
 use mathlib.Core.Path.{refl, sym, ◌∙◌}

@@ -6,7 +6,6 @@ use Rattle.capi.proofs.updates.sokdrib_update.Goals as goal
 use Rattle.lent.proofs.Lent.{unless-refused, unless-accepted, worked_same, worked-front}
 use Rattle.lists.proofs.Laws.{neither}
 use Rattle.update_design.specs.Design.{gains_of}
-use borrow.Author.Rules.{rules}
 use lib.ListN.{length}
 use lib.Seq.{length-take-le}
 use mathlib.Core.Path.{sym, ◌∙◌}
