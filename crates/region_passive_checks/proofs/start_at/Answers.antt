@@ -5,15 +5,11 @@ use lib.ListN.{length, get_or}
 use mathlib.Core.List.{List, [], ◌∷◌}
 use mathlib.Core.Path.{◌≡◌, refl, sym}
 use native.Mathlib.Nat.{not-suc-le-zero, le_of_suc-le-suc}
-use native.Mathlib.Omega.{arith}
 
 past : (l : List ℕ) (k : ℕ) → length l ≤ k → get_or l k 0 ≡ 0
 past [] k h = refl
 past (x ∷ l) zero h = absurd (not-suc-le-zero h)
 past (x ∷ l) (suc k) h = past l k (le_of_suc-le-suc h)
-
-pub overflow_cast-result : goal.overflow_cast-result
-overflow_cast-result c = omega (arith, c.type_inv.starts c.args.s)
 
 pub returns : goal.returns
 returns c = let a = c.args in sym (past a.starts.now a.s c.if-s-starts.false)
