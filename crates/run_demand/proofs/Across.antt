@@ -1,6 +1,6 @@
 -- Demand 3 across the boundary: whatever `sokdrib_open` and `sokdrib_answer` tell that meets their contracts is what the plain run shows. Assumes nothing.
 use mathlib.Core.Path.{◌≡◌, refl, sym, ap, ◌∙◌, subst}
-use mathlib.Core.Bool.{Bool, true, false, ◌||◌}
+use mathlib.Core.Bool.{false, ◌||◌}
 use mathlib.Core.List.{List, [], ◌∷◌, map}
 use Prim.Native.Nat.{ℕ}
 use lib.ListN.{length, take, set, length-map}
@@ -12,19 +12,13 @@ use Rattle.topo.specs.declared.Stop.{Stop as Reason}
 use Rattle.topo.specs.declared.Stop.TheVariants.{Settled, LevelledOff, Limit, Budget, Stopped}
 use Rattle.run_plain.specs.declared.Reply.{Reply}
 use Rattle.run_plain.specs.declared.Reply.TheVariants.{Refused, Solid, Round, Stop}
-use Rattle.run_plain.specs.declared.State.{State}
-use Rattle.run_plain.specs.Lent.{Sizes}
-use Rattle.run_plain.specs.Plain.{Out, stops, Seen, unopened, plain_run}
-use Rattle.run_plain.specs.Calls.{Lists, lists_of, Core, Asked, Arguments, Result, World, Call, lend, world_after, open_of, opening_of, answer_of, out_by, out_of as call_out, left_at as call_left, result_of, calls_from, calls_shut, calls_by, calls_run, fed, NoRun}
+use Rattle.run_plain.specs.Plain.{stops, unopened, plain_run}
+use Rattle.run_plain.specs.Calls.{lists_of, Core, Result, World, lend, world_after, open_of, opening_of, answer_of, out_by, out_of as call_out, left_at as call_left, result_of, calls_from, calls_shut, calls_by, calls_run, fed, NoRun}
 use Rattle.run_plain.proofs.Parts.{overlay-part}
 use Rattle.run_plain.proofs.Demand.{demand}
 use Rattle.run_plain.specs.declared.Returned.{Returned}
-use Rattle.run_answer.specs.declared.Step.{Step}
-use Rattle.run_answer.specs.Answers.{Work, lengths_of}
-use Rattle.run_open_checks.specs.Opens.{Work as OpenWork, lengths_of as open_lengths}
 use Rattle.c_numbers.specs.declared.RunState.{RunState}
 use Rattle.c_numbers.specs.declared.RunReturned.{RunReturned}
-use Rattle.c_numbers.specs.declared.RunRecord.{RunRecord}
 use Rattle.c_numbers.specs.declared.RunStep.{RunStep}
 use Rattle.c_numbers.specs.Flat.{phase_of, state_of, state_numbers, stop_number, reply_kind, reply_number, returned_numbers, record_numbers, step_numbers, no_runs, no_goals, OpenedIn, AnsweredIn}
 use Rattle.run_demand.specs.Across.{Held, record_of, world_of, lent_core, back_core, OpenCall, AnswerCall, MetOpen, asked_of, arguments_of, Met, AllMet, opened, answered, stop_of, out_of, left_at, seen_from, seen_shut, seen_run, call_of}

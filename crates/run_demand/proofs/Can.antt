@@ -1,16 +1,15 @@
 -- The premises of demand 3 can be met: whatever is lent and told, there is a call that meets its contract. Assumes nothing.
 use mathlib.Core.Path.{◌≡◌, refl, sym, ap}
 use mathlib.Core.List.{List, [], ◌∷◌}
-use Prim.Native.Nat.{ℕ, suc}
+use Prim.Native.Nat.{ℕ}
 use lib.ListN.{length, replicate}
 use Rattle.lists.specs.Lists.{zero64}
-use Rattle.filter.specs.Build.{words}
 use Rattle.run_plain.specs.declared.Verdict.{Verdict}
 use Rattle.run_plain.specs.declared.Verdict.TheVariants.{Kept, Over, Halts, Begins, Solves}
 use Rattle.run_plain.specs.declared.Entry.{Entry}
 use Rattle.run_plain.specs.declared.Entry.TheVariants.{Kept as KeptOut, Zeroed, Shut, Opens}
 use Rattle.run_plain.specs.Lent.{Sizes}
-use Rattle.run_plain.specs.Calls.{Asked, Result, World, Call, lend, open_of, answer_of, result_of}
+use Rattle.run_plain.specs.Calls.{Asked, World, Call, lend, open_of, answer_of, result_of}
 use Rattle.run_answer.specs.Answers.{Work, lengths_of, verdict_in, worked}
 use Rattle.run_open_checks.specs.Opens.{Work as OpenWork, lengths_of as open_lengths, entry_in, Left}
 use Rattle.run_demand.specs.Made.{MadeOpen, Made, core_of, MetOpen, Met}

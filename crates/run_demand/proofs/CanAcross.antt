@@ -1,8 +1,8 @@
 -- The premises of demand 3 across the boundary can be met: whatever is lent and told, there are numbers that meet the contract of `sokdrib_open`, and of `sokdrib_answer`. Assumes nothing.
 use mathlib.Core.Path.{◌≡◌, refl, sym, ap, ◌∙◌}
 use mathlib.Core.Bool.{false, ◌||◌}
-use mathlib.Core.List.{List, [], ◌∷◌}
-use Prim.Native.Nat.{ℕ, suc}
+use mathlib.Core.List.{List, []}
+use Prim.Native.Nat.{ℕ}
 use lib.ListN.{length, take, set}
 use Rattle.lists.specs.Lists.{choose}
 use Rattle.lists.proofs.Mapped.{set_past}
@@ -17,16 +17,13 @@ use Rattle.run_plain.specs.declared.Course.TheVariants.{Onward, Ends}
 use Rattle.run_plain.specs.declared.Entry.{Entry}
 use Rattle.run_plain.specs.declared.Entry.TheVariants.{Kept as KeptOut, Zeroed, Shut, Opens}
 use Rattle.run_plain.specs.Opening.{Opening, entry_of}
-use Rattle.run_plain.specs.Plain.{judged, first_stop}
-use Rattle.run_plain.specs.Calls.{Lists, lists_of, Core, Asked, Arguments, Result, sizes_of, case_from, checks_at, part_of, record_in, stops_at, solved_by, keeps, answer_by, answer_of, zeroed_lists, open_by, in_turn, open_of}
+use Rattle.run_plain.specs.Plain.{first_stop}
+use Rattle.run_plain.specs.Calls.{lists_of, Core, Asked, Arguments, Result, case_from, record_in, stops_at, solved_by, keeps, answer_by, answer_of, zeroed_lists, open_by, in_turn, open_of}
 use Rattle.run_answer.specs.declared.Step.{Step}
 use Rattle.run_plain.specs.declared.Returned.{Returned}
 use Rattle.run_answer.specs.Answers.{Work, lengths_of, verdict_in, CoreAnswered}
 use Rattle.run_open_checks.specs.Opens.{Work as OpenWork, lengths_of as open_lengths, opening_in, entry_in, CoreOpened}
-use Rattle.c_numbers.specs.declared.RunState.{RunState}
-use Rattle.c_numbers.specs.declared.RunReturned.{RunReturned}
-use Rattle.c_numbers.specs.declared.RunStep.{RunStep}
-use Rattle.c_numbers.specs.Flat.{state_of, returned_numbers, record_numbers, step_numbers, no_runs, no_goals, OpenedAs, AnsweredAs}
+use Rattle.c_numbers.specs.Flat.{state_of, returned_numbers, step_numbers, no_runs, no_goals}
 use Rattle.c_numbers.proofs.Laws.{not-both}
 use Rattle.run_demand.specs.Made.{core_of}
 use Rattle.run_demand.specs.Across.{Held, lent_core, OpenCall, AnswerCall, asked_of, arguments_of, MetOpen, Met}

@@ -1,13 +1,13 @@
 -- Calls over numbers that a caller made, told by their contracts alone. The caller holds a state, the lists, and a history into which it puts the record that an
 -- answer tells, at the place that it tells. Definitions only.
-use Rattle.std.specs.Prelude.{◌≡◌, Bool, List, [], ◌∷◌, map, ℕ, suc, length, take, set, eqb, Float}
+use Rattle.std.specs.Prelude.{◌≡◌, Bool, List, [], ◌∷◌, map, ℕ, length, take, set, eqb, Float}
 use Rattle.lists.specs.Lists.{choose, overlay}
 use Rattle.topo.specs.declared.Iteration.{Iteration}
 use Rattle.topo.specs.declared.Stop.{Stop as Reason}
 use Rattle.topo.specs.declared.Stop.TheVariants.{Settled, LevelledOff, Limit, Budget, Stopped}
 use Rattle.run_plain.specs.Lent.{Sizes}
-use Rattle.run_plain.specs.Plain.{Out, refused, asks, stops, Part, solid, round, Shown, unopened, shown, Seen}
-use Rattle.run_plain.specs.Calls.{Lists, lists_of, Core, Asked, Arguments, World, Call, lend}
+use Rattle.run_plain.specs.Plain.{Out, refused, asks, stops, solid, round, Shown, unopened, shown, Seen}
+use Rattle.run_plain.specs.Calls.{lists_of, Core, Asked, Arguments, World, Call}
 use Rattle.run_answer.specs.Answers.{Work, lengths_of}
 use Rattle.run_open_checks.specs.Opens.{Work as OpenWork, lengths_of as open_lengths}
 use Rattle.c_numbers.specs.declared.RunState.{RunState}
