@@ -6,12 +6,6 @@ use lib.Ieee.{Float}
 use lib.ListN.{length}
 use mathlib.Core.Path.{ap, ◌∙◌}
 
-pub cell_size-size-requires : goal.cell_size-size-requires
-cell_size-size-requires c = c.requires.tris_in_bounds
-
-pub cells_of-requires : goal.cells_of-requires
-cells_of-requires c = c.requires.centroids_nonzero.2
-
 pub returns : goal.returns
 returns c = let a = c.args in
     c.reach_all.ensures ∙ ap (λ (v : Float). reached_by a.nodes.now a.tris.now (in_set a.surfaces.now a.starts.now a.kept.now a.s) v a.depth a.centroids.now (length a.tris.now) a.marks.now) c.cell_size-size.ensures

@@ -20,17 +20,8 @@ step nodes tris surfaces starts kept s size depth centroids i w = choose (in_set
 pub loop-t-init : goal.loop-t-init
 loop-t-init c = (omega arith, refl, sym (fold_to-none _ _))
 
-pub bounds-surfaces-t : goal.bounds-surfaces-t
-bounds-surfaces-t c = omega (arith, c.requires.tris_in_bounds.0)
-
-pub in_set-requires : goal.in_set-requires
-in_set-requires c = c.requires.tris_in_bounds.1
-
 pub reach-requires : goal.reach-requires
 reach-requires c = (c.requires.ready.0, c.loop-t.invariant.1 ∙ c.requires.ready.1)
-
-pub loop-t-smaller-then-in_set : goal.loop-t-smaller-then-in_set
-loop-t-smaller-then-in_set c = omega (arith, c.loop-t-test.true)
 
 pub loop-t-preserved-then-in_set : goal.loop-t-preserved-then-in_set
 unfolding in_set
@@ -42,9 +33,6 @@ loop-t-preserved-then-in_set c = let l = c.loop-t in
           ∙ sym (choose-true (in_set a.surfaces.now a.starts.now a.kept.now a.s l.t) _ _ (sym c.in_set.ensures ∙ c.if-in_set.true)) ∙ fold_to-more (step a.nodes.now a.tris.now a.surfaces.now a.starts.now a.kept.now a.s a.size a.depth a.centroids.now) a.marks.now l.t,
     )
 
-pub loop-t-smaller : goal.loop-t-smaller
-loop-t-smaller c = omega (arith, c.loop-t-test.true)
-
 pub loop-t-preserved : goal.loop-t-preserved
 unfolding in_set
 loop-t-preserved c = let l = c.loop-t in
@@ -53,9 +41,6 @@ loop-t-preserved c = let l = c.loop-t in
       l.invariant.1,
       l.invariant.2 ∙ sym (choose-false (in_set a.surfaces.now a.starts.now a.kept.now a.s l.t) _ _ (sym c.in_set.ensures ∙ c.if-in_set.false)) ∙ fold_to-more (step a.nodes.now a.tris.now a.surfaces.now a.starts.now a.kept.now a.s a.size a.depth a.centroids.now) a.marks.now l.t,
     )
-
-pub shape_of-marks : goal.shape_of-marks
-shape_of-marks c = c.loop-t.invariant.1
 
 pub returns : goal.returns
 unfolding reached_by

@@ -9,20 +9,11 @@ use mathlib.Core.Path.{◌≡◌, refl, ◌∙◌}
 use native.Mathlib.Nat.{le_antisymm}
 use native.Mathlib.Omega.{arith}
 
-pub plane-requires : goal.plane-requires
-plane-requires c = (c.requires.0, c.requires.1, c.requires.2, c.requires.3)
-
 pub loop-x-init : goal.loop-x-init
 loop-x-init c = (omega arith, c.requires.4, refl, λ w e. e)
 
-pub overflow_add-x : goal.overflow_add-x
-overflow_add-x c = omega (arith, c.loop-x-test.true)
-
 pub plane-requires-in-loop-x : goal.plane-requires-in-loop-x
 plane-requires-in-loop-x c = (c.requires.0, c.requires.1, c.loop-x.invariant.2 ∙ c.plane.auto.marks ∙ c.requires.2, c.requires.3)
-
-pub loop-x-smaller : goal.loop-x-smaller
-loop-x-smaller c = omega (arith, c.loop-x-test.true)
 
 pub loop-x-preserved : goal.loop-x-preserved
 loop-x-preserved c = let a = c.args in

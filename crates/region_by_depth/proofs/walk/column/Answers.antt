@@ -10,9 +10,6 @@ use mathlib.Core.Path.{◌≡◌, refl, sym, ◌∙◌}
 use native.Mathlib.Nat.{le_antisymm}
 use native.Mathlib.Omega.{arith}
 
-pub span-s-requires : goal.span-s-requires
-span-s-requires c = (c.requires.0.some, c.requires.0.firsts)
-
 pub loop-k-init : goal.loop-k-init
 loop-k-init c = let a = c.args in
     let s = c.span-s.ensures.some a.cells.now a.order.now c.requires.0 refl in (
@@ -40,9 +37,6 @@ loop-k-preserved c = let a = c.args in
       c.look.auto.marks ∙ l.invariant.3,
       look-more a.t a.limit a.centroids.now a.cells.now a.order.now a.first.now a.m a.x a.y a.z0 a.z1 a.marks.now c.span-s.result.from l.k l.marks c.look.new.marks l.invariant.0 lt (c.requires.0.order_lt l.k lt) (l.invariant.3 ∙ c.requires.2 ∙ sym c.requires.1) l.invariant.4 c.look.ensures,
     )
-
-pub shape_of-marks : goal.shape_of-marks
-shape_of-marks c = c.loop-k.invariant.3
 
 pub returns : goal.returns
 returns c = let a = c.args in

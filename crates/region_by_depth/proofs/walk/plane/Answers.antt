@@ -9,20 +9,11 @@ use mathlib.Core.Path.{◌≡◌, refl, ◌∙◌}
 use native.Mathlib.Nat.{le_antisymm}
 use native.Mathlib.Omega.{arith}
 
-pub column-requires : goal.column-requires
-column-requires c = (c.requires.0, c.requires.1, c.requires.2)
-
 pub loop-y-init : goal.loop-y-init
 loop-y-init c = (omega arith, c.requires.3, refl, λ w e. e)
 
-pub overflow_add-y : goal.overflow_add-y
-overflow_add-y c = omega (arith, c.loop-y-test.true)
-
 pub column-requires-in-loop-y : goal.column-requires-in-loop-y
 column-requires-in-loop-y c = (c.requires.0, c.requires.1, c.loop-y.invariant.2 ∙ c.column.auto.marks ∙ c.requires.2)
-
-pub loop-y-smaller : goal.loop-y-smaller
-loop-y-smaller c = omega (arith, c.loop-y-test.true)
 
 pub loop-y-preserved : goal.loop-y-preserved
 loop-y-preserved c = let a = c.args in
