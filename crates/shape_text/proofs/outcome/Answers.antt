@@ -4,7 +4,6 @@ use Rattle.shape_report.proofs.Laws.{retext}
 use Rattle.shape_report.specs.Report.{text_of, ran}
 use Rattle.shape_text.proofs.outcome.Goals as goal
 use Rattle.shape_text.specs.Printed.{outcome_by}
-use borrow.Author.Rules.{rules}
 use lib.Ieee.{Float}
 use lib.ListN.{take}
 use mathlib.Core.List.{List}

@@ -4,7 +4,6 @@ use Rattle.shape_report.proofs.Laws.{retext}
 use Rattle.shape_report.specs.Report.{text_of}
 use Rattle.shape_text.proofs.text.Goals as goal
 use Rattle.shape_text.specs.Printed.{outcome_of}
-use borrow.Author.Rules.{rules}
 use mathlib.Core.Path.{ap}
 
 pub shape_of-starts : goal.shape_of-starts
