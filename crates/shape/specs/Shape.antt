@@ -1,5 +1,5 @@
 -- 01, "The job strip and its program": what the program comes to, from the lists that it read. Definitions only.
-use Rattle.std.specs.Prelude.{Bool, false, List, ℕ, length, replicate, Float}
+use Rattle.std.specs.Prelude.{Bool, false, List, length, replicate, Float}
 use Rattle.lists.specs.Lists.{zero64}
 use Rattle.topo.specs.declared.Goal.{Goal}
 use Rattle.topo.specs.declared.Iteration.{Iteration}

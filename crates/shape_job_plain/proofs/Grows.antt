@@ -1,7 +1,7 @@
 -- No call shortens a list, so lists lent whole come back whole. Assumes nothing.
 use mathlib.Core.Path.{◌≡◌, refl, ap, ◌∙◌}
 use mathlib.Core.Bool.{Bool, true, false}
-use mathlib.Core.List.{List, [], ◌∷◌, ◌++◌, append_nil}
+use mathlib.Core.List.{List, [], ◌∷◌, ◌++◌, append-nil}
 use Prim.Native.Nat.{ℕ, zero, suc, ◌+◌, ◌≤◌}
 use native.Mathlib.Omega.{arith}
 use native.Mathlib.Nat.{le_refl}
@@ -105,7 +105,7 @@ dropped (suc n) (x ∷ l) h = dropped n l (omega arith)
 
 covers : {A : Type 0} (new l : List A) → length l ≤ length new → overlay new l ≡ new
 unfolding overlay
-covers new l h = ap (λ (t : List _). new ++ t) (dropped (length new) l h) ∙ append_nil new
+covers new l h = ap (λ (t : List _). new ++ t) (dropped (length new) l h) ∙ append-nil new
 
 pub back_whole : (p l : Lists) → Grown l p → give_back p l ≡ p
 back_whole p l g i =

@@ -27,9 +27,6 @@ pub farthest-requires : goal.farthest-requires
 farthest-requires c = let len = c.build.auto.order ∙ c.number.auto.order ∙ c.requires.order-fit in
     (omega (arith, len, c.requires.some), c.build.auto.boxes ∙ c.requires.boxes-fit ∙ sym len, c.mark.auto.seen ∙ c.clear.auto.seen ∙ c.requires.seen-fit)
 
-pub shape_of-faces : goal.shape_of-faces
-shape_of-faces c = c.gather.auto.faces
-
 pub returns : goal.returns
 unfolding whole_tree
 returns c = let a = c.args in

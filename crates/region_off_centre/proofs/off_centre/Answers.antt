@@ -23,12 +23,6 @@ pub loop-i-init : goal.loop-i-init
 unfolding lowest highest fold_to div of_bits neg
 loop-i-init c = (omega arith, refl, refl)
 
-pub overflow_add-i : goal.overflow_add-i
-overflow_add-i c = omega arith
-
-pub loop-i-smaller : goal.loop-i-smaller
-loop-i-smaller c = omega arith
-
 pub loop-i-preserved : goal.loop-i-preserved
 unfolding lowest highest
 loop-i-preserved c = let a = c.args in

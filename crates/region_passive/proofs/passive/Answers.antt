@@ -22,27 +22,6 @@ mark_front-requires c =
     let none = sym is ∙ at-most-zero c.refusal-r.result c.if-r-gt0.false in
     roomy p l none
 
-pub shape_of-marks : goal.shape_of-marks
-shape_of-marks c = c.mark_front.auto.marks
-
-pub shape_of-keep : goal.shape_of-keep
-shape_of-keep c = c.mark_front.auto.keep
-
-pub shape_of-centroids : goal.shape_of-centroids
-shape_of-centroids c = c.mark_front.auto.centroids
-
-pub shape_of-cells : goal.shape_of-cells
-shape_of-cells c = c.mark_front.auto.cells
-
-pub shape_of-order : goal.shape_of-order
-shape_of-order c = c.mark_front.auto.order
-
-pub shape_of-place : goal.shape_of-place
-shape_of-place c = c.mark_front.auto.place
-
-pub shape_of-first : goal.shape_of-first
-shape_of-first c = c.mark_front.auto.first
-
 pub returns : goal.returns
 returns c =
     let a = c.args in

@@ -8,34 +8,10 @@ use lib.ListN.{drop}
 use mathlib.Core.Path.{ap, ◌∙◌}
 use native.Mathlib.Omega.{arith}
 
-pub new-requires : goal.new-requires
-new-requires c = tt
-
-pub new-requires-2 : goal.new-requires-2
-new-requires-2 c = tt
-
 pub loop-i-init : goal.loop-i-init
 unfolding bounds_of
 loop-i-init c = let a = c.args in
     (omega arith, (λ i. bounds_from a.faces.now (record { lo = c.new.ensures i; hi = c.new-2.ensures i }) a.order.now))
-
-pub offset_bounds-order-i : goal.offset_bounds-order-i
-offset_bounds-order-i c = omega arith
-
-pub bounds-order-i : goal.bounds-order-i
-bounds-order-i c = omega arith
-
-pub face_at-requires : goal.face_at-requires
-face_at-requires c = tt
-
-pub widened-b-requires : goal.widened-b-requires
-widened-b-requires c = tt
-
-pub overflow_add-i : goal.overflow_add-i
-overflow_add-i c = omega arith
-
-pub loop-i-smaller : goal.loop-i-smaller
-loop-i-smaller c = omega arith
 
 pub loop-i-preserved : goal.loop-i-preserved
 loop-i-preserved c = let a = c.args in

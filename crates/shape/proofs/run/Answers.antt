@@ -9,7 +9,6 @@ use Rattle.shape_report.specs.Report.{text_of}
 use Rattle.shape_report.specs.Steps.{Wrote}
 use Rattle.shape_text.specs.Printed.{outcome_of}
 use Rattle.topo.specs.declared.Goal.{Goal}
-use borrow.Author.Rules.{rules}
 use lib.Ieee.{Float}
 use lib.ListN.{length}
 use lib.Seq.{length-take-le}

@@ -10,17 +10,21 @@ use mathlib.Core.List.{List}
 use mathlib.Core.Path.{sym, ap, ◌∙◌}
 
 pub returns-in-Refused : goal.returns-in-Refused
-returns-in-Refused c = let a = c.args in
+returns-in-Refused c =
+    let a = c.args in
     retext (ap (λ (q : Reply). text_of (outcome_by q a.t.returned.state a.t.history a.last.now)) (sym c.in-Refused.is)) c.refused.ensures
 
 pub returns-in-Solid : goal.returns-in-Solid
-returns-in-Solid c = let a = c.args in
+returns-in-Solid c =
+    let a = c.args in
     retext (ap (λ (q : Reply). text_of (outcome_by q a.t.returned.state a.t.history a.last.now)) (sym c.in-Solid.is)) c.refused-in-Solid.ensures
 
 pub returns-in-Round : goal.returns-in-Round
-returns-in-Round c = let a = c.args in
+returns-in-Round c =
+    let a = c.args in
     retext (ap (λ (q : Reply). text_of (outcome_by q a.t.returned.state a.t.history a.last.now)) (sym c.in-Round.is)) c.refused-in-Round.ensures
 
 pub returns-in-Stop : goal.returns-in-Stop
-returns-in-Stop c = let a = c.args in
+returns-in-Stop c =
+    let a = c.args in
     retext (ap (λ (l : List Float). text_of (ran a.t.returned.state.compliances.solid (take a.t.returned.state.progress.rounds a.t.history) c.in-Stop.why l)) c.front.ensures ∙ ap (λ (q : Reply). text_of (outcome_by q a.t.returned.state a.t.history a.last.now)) (sym c.in-Stop.is)) c.ran.ensures

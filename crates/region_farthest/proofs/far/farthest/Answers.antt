@@ -23,24 +23,6 @@ pub loop-k-init : goal.loop-k-init
 unfolding farthest_in fold_to
 loop-k-init c = (omega arith, refl)
 
-pub bounds-seen-k : goal.bounds-seen-k
-bounds-seen-k c = omega (arith, c.requires)
-
-pub offset_bounds-nodes-k : goal.offset_bounds-nodes-k
-offset_bounds-nodes-k c = omega arith
-
-pub bounds-nodes-k : goal.bounds-nodes-k
-bounds-nodes-k c = omega arith
-
-pub near-requires : goal.near-requires
-near-requires c = (c.requires.0, c.requires.1)
-
-pub overflow_add-k : goal.overflow_add-k
-overflow_add-k c = omega arith
-
-pub loop-k-smaller-then-seen-k : goal.loop-k-smaller-then-seen-k
-loop-k-smaller-then-seen-k c = omega arith
-
 pub loop-k-preserved-then-seen-k : goal.loop-k-preserved-then-seen-k
 unfolding farthest_in farther
 loop-k-preserved-then-seen-k c = let l = c.loop-k in
@@ -56,12 +38,6 @@ loop-k-preserved-then-seen-k c = let l = c.loop-k in
           ∙ ap (λ (w : Float). choose (get_or a.seen.now l.k false) (farther a.faces.now T a.mirror at w) w) l.invariant.1
           ∙ fold_to-more (λ k w. choose (get_or a.seen.now k false) (farther a.faces.now T a.mirror (point (get_or a.nodes.now k [])) w) w) zero64 l.k,
     )
-
-pub overflow_add-k-else-seen-k : goal.overflow_add-k-else-seen-k
-overflow_add-k-else-seen-k c = omega arith
-
-pub loop-k-smaller : goal.loop-k-smaller
-loop-k-smaller c = omega arith
 
 pub loop-k-preserved : goal.loop-k-preserved
 unfolding farthest_in farther

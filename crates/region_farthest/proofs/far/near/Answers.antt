@@ -3,10 +3,6 @@ use Rattle.region_farthest.proofs.far.near.Goals as goal
 use Rattle.region_nearest.specs.declared.Found.{Found}
 use lib.Ieee.{div, of_bits}
 use mathlib.Core.Path.{ap}
-use native.Mathlib.Omega.{arith}
-
-pub bounds-boxes-h : goal.bounds-boxes-h
-bounds-boxes-h c = omega (arith, c.requires.1)
 
 pub seek-s-requires : goal.seek-s-requires
 seek-s-requires c = record { some = c.requires.0; places = c.requires.1; away = c.gap-g.ensures }

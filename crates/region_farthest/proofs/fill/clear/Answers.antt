@@ -17,9 +17,6 @@ pub loop-i-preserved : goal.loop-i-preserved
 loop-i-preserved c = let l = c.loop-i in
     (omega arith, simp length-set l.invariant.1, (λ k. set (l.invariant.2 k) l.i false) ∙ overwrite-more (λ k. false) l.i c.args.seen.now (omega arith))
 
-pub shape_of-seen : goal.shape_of-seen
-shape_of-seen c = c.loop-i.invariant.1
-
 pub returns : goal.returns
 returns c = let l = c.loop-i in
     let seen = c.args.seen.now in

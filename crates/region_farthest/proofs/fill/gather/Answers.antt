@@ -14,25 +14,10 @@ use native.Mathlib.Omega.{arith}
 pub loop-i-init : goal.loop-i-init
 loop-i-init c = (omega arith, refl, sym (overwrite-none _ _))
 
-pub offset_bounds-faces-i : goal.offset_bounds-faces-i
-offset_bounds-faces-i c = omega arith
-
-pub bounds-faces-i : goal.bounds-faces-i
-bounds-faces-i c = omega (arith, c.requires)
-
-pub overflow_add-i : goal.overflow_add-i
-overflow_add-i c = omega arith
-
-pub loop-i-smaller : goal.loop-i-smaller
-loop-i-smaller c = omega arith
-
 pub loop-i-preserved : goal.loop-i-preserved
 loop-i-preserved c = let l = c.loop-i in
     let a = c.args in
     (omega arith, simp length-set l.invariant.1, (λ k. set (l.invariant.2 k) l.i (c.nine.ensures k)) ∙ overwrite-more (λ k. nine_of a.nodes.now (get_or a.tris.now k [])) l.i a.faces.now (omega (arith, c.requires)))
-
-pub shape_of-faces : goal.shape_of-faces
-shape_of-faces c = c.loop-i.invariant.1
 
 pub returns : goal.returns
 unfolding faces_of

@@ -19,30 +19,6 @@ key_at a t = total_key (coordinate a (middle_of (corners_of t)))
 pub loop-i-init : goal.loop-i-init
 loop-i-init c = (omega arith, refl, refl, refl, sym (overwrite-none _ _), sym (overwrite-none _ _), sym (overwrite-none _ _))
 
-pub offset_bounds-kx-i : goal.offset_bounds-kx-i
-offset_bounds-kx-i c = omega arith
-
-pub bounds-kx-i : goal.bounds-kx-i
-bounds-kx-i c = omega (arith, c.requires)
-
-pub offset_bounds-ky-i : goal.offset_bounds-ky-i
-offset_bounds-ky-i c = omega arith
-
-pub bounds-ky-i : goal.bounds-ky-i
-bounds-ky-i c = omega (arith, c.requires)
-
-pub offset_bounds-kz-i : goal.offset_bounds-kz-i
-offset_bounds-kz-i c = omega arith
-
-pub bounds-kz-i : goal.bounds-kz-i
-bounds-kz-i c = omega (arith, c.requires)
-
-pub overflow_add-i : goal.overflow_add-i
-overflow_add-i c = omega arith
-
-pub loop-i-smaller : goal.loop-i-smaller
-loop-i-smaller c = omega arith
-
 pub loop-i-preserved : goal.loop-i-preserved
 unfolding coordinate
 loop-i-preserved c = let l = c.loop-i in
@@ -55,15 +31,6 @@ loop-i-preserved c = let l = c.loop-i in
       (λ k. set (l.invariant.5 k) l.i ((c.total_key-in-loop-i.ensures ∙ (λ j. total_key (c.middle-m.ensures j).y)) k)) ∙ overwrite-more (λ k. total_key (coordinate 1 (middle_of (corners_of (get_or a.faces.now k []))))) l.i a.ky.now (omega (arith, c.requires)),
       (λ k. set (l.invariant.6 k) l.i ((c.total_key-in-loop-i-2.ensures ∙ (λ j. total_key (c.middle-m.ensures j).z)) k)) ∙ overwrite-more (λ k. total_key (coordinate 2 (middle_of (corners_of (get_or a.faces.now k []))))) l.i a.kz.now (omega (arith, c.requires)),
     )
-
-pub shape_of-kx : goal.shape_of-kx
-shape_of-kx c = c.loop-i.invariant.1
-
-pub shape_of-ky : goal.shape_of-ky
-shape_of-ky c = c.loop-i.invariant.2
-
-pub shape_of-kz : goal.shape_of-kz
-shape_of-kz c = c.loop-i.invariant.3
 
 pub returns : goal.returns
 unfolding keys_along

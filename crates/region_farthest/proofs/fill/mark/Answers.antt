@@ -16,12 +16,6 @@ pub loop-i-init : goal.loop-i-init
 unfolding any_to
 loop-i-init c = (omega arith, refl, c.requires)
 
-pub overflow_add-i : goal.overflow_add-i
-overflow_add-i c = omega arith
-
-pub loop-i-smaller : goal.loop-i-smaller
-loop-i-smaller c = omega arith
-
 pub loop-i-preserved : goal.loop-i-preserved
 loop-i-preserved c = let l = c.loop-i in
     let a = c.args in
@@ -34,9 +28,6 @@ loop-i-preserved c = let l = c.loop-i in
           ∙ three-marks (λ k. any_to (λ j. corner_of (get_or a.tris.now j []) k) l.i) m (get_or t 0 0) (get_or t 1 0) (get_or t 2 0)
           ∙ (λ i. tabulate (λ k. any_step (λ j. corner_of (get_or a.tris.now j []) k) l.i i) m),
     )
-
-pub shape_of-seen : goal.shape_of-seen
-shape_of-seen c = c.loop-i.invariant.1
 
 pub returns : goal.returns
 unfolding is_corner

@@ -12,15 +12,9 @@ use native.Mathlib.Omega.{arith}
 pub loop-i-init : goal.loop-i-init
 loop-i-init c = (omega arith, refl, sym (overwrite-none _ _))
 
-pub overflow_cast-order : goal.overflow_cast-order
-overflow_cast-order c = omega (arith, c.requires)
-
 pub loop-i-preserved : goal.loop-i-preserved
 loop-i-preserved c = let l = c.loop-i in
     (omega arith, simp length-set l.invariant.1, (λ k. set (l.invariant.2 k) l.i l.i) ∙ overwrite-more (λ k. k) l.i c.args.order.now (omega arith))
-
-pub shape_of-order : goal.shape_of-order
-shape_of-order c = c.loop-i.invariant.1
 
 pub returns : goal.returns
 returns c = let l = c.loop-i in

@@ -19,9 +19,6 @@ pub by_depth-requires : goal.by_depth-requires
 by_depth-requires c = let l = c.loop-s in
     record { centroids_nonzero = (c.requires.some, c.requires.few, l.invariant.1 ∙ c.requires.celled, l.invariant.2 ∙ c.requires.orders, l.invariant.3 ∙ c.requires.places, l.invariant.4 ∙ c.requires.firsts, l.invariant.5 ∙ c.requires.marked); tris_in_bounds = (c.requires.surfaced, omega (arith, c.requires.begun, c.loop-s-test.true)) }
 
-pub loop-s-smaller-then-is_depth : goal.loop-s-smaller-then-is_depth
-loop-s-smaller-then-is_depth c = omega (arith, c.loop-s-test.true)
-
 pub loop-s-preserved-then-is_depth : goal.loop-s-preserved-then-is_depth
 unfolding deepened
 loop-s-preserved-then-is_depth c = let a = c.args in
@@ -37,9 +34,6 @@ loop-s-preserved-then-is_depth c = let a = c.args in
       one ∙ ap (deepened q a.centroids.now l.s) l.invariant.6 ∙ deepened-more q a.centroids.now l.s a.marks.now,
     )
 
-pub loop-s-smaller : goal.loop-s-smaller
-loop-s-smaller c = omega (arith, c.loop-s-test.true)
-
 pub loop-s-preserved : goal.loop-s-preserved
 unfolding deepened
 loop-s-preserved c = let a = c.args in
@@ -54,21 +48,6 @@ loop-s-preserved c = let a = c.args in
       l.invariant.5,
       one ∙ ap (deepened q a.centroids.now l.s) l.invariant.6 ∙ deepened-more q a.centroids.now l.s a.marks.now,
     )
-
-pub shape_of-cells : goal.shape_of-cells
-shape_of-cells c = c.loop-s.invariant.1
-
-pub shape_of-order : goal.shape_of-order
-shape_of-order c = c.loop-s.invariant.2
-
-pub shape_of-place : goal.shape_of-place
-shape_of-place c = c.loop-s.invariant.3
-
-pub shape_of-first : goal.shape_of-first
-shape_of-first c = c.loop-s.invariant.4
-
-pub shape_of-marks : goal.shape_of-marks
-shape_of-marks c = c.loop-s.invariant.5
 
 pub returns : goal.returns
 returns c = let a = c.args in

@@ -18,9 +18,6 @@ pub loop-e-preserved : goal.loop-e-preserved
 loop-e-preserved c = let l = c.loop-e in
     (omega arith, simp length-set l.invariant.1, ap (set l.centroids l.e) (ap stored c.centroid-m.ensures) ∙ rw l.invariant.2 (overwrite-more _ _ _ (omega arith)))
 
-pub shape_of-centroids : goal.shape_of-centroids
-shape_of-centroids c = c.loop-e.invariant.1
-
 pub returns : goal.returns
 returns c = let a = c.args in
     let l = c.loop-e in

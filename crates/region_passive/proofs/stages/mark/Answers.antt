@@ -18,24 +18,12 @@ by_node_lem : (p : Problem) (k : ℕ) (w : List Bool) → k ≡ length p.nodes
 by_node_lem p k w flags e =
     e ∙ ap (λ (m : ℕ). tabulate (λ i. by_nodes p.tris p.surfaces p.starts p.kept p.held p.loaded (length p.depths) m (get_or p.tets i [])) (length p.tets)) flags
 
-pub by_nodes-requires : goal.by_nodes-requires
-by_nodes-requires c = (c.requires.surfaced, c.requires.begun, c.requires.marked)
-
-pub shape_of-marks-then-tets-lt1 : goal.shape_of-marks-then-tets-lt1
-shape_of-marks-then-tets-lt1 c = c.by_nodes.auto.marks
-
-pub shape_of-keep-then-tets-lt1 : goal.shape_of-keep-then-tets-lt1
-shape_of-keep-then-tets-lt1 c = c.by_nodes.auto.keep
-
 pub returns-then-tets-lt1 : goal.returns-then-tets-lt1
 returns-then-tets-lt1 c =
     let a = c.args in
     let p : Problem = record { nodes = a.nodes.now; tets = a.tets.now; tris = a.tris.now; surfaces = a.surfaces.now; held = a.held.now; loaded = a.loaded.now; starts = a.starts.now; kept = a.kept.now; depths = a.depths.now } in
     let w = c.by_nodes.new.marks in
     solid-none p w (omega (arith, c.if-tets-lt1.true)) (by_node_lem p (length a.keep.now) w c.requires.keeps c.by_nodes.ensures)
-
-pub centroids_of-requires : goal.centroids_of-requires
-centroids_of-requires c = c.requires.middled
 
 pub by_depths-requires : goal.by_depths-requires
 by_depths-requires c = let n = c.centroids_of.auto.centroids ∙ c.requires.middled in
@@ -53,24 +41,6 @@ by_depths-requires c = let n = c.centroids_of.auto.centroids ∙ c.requires.midd
 
 pub shape_of-marks : goal.shape_of-marks
 shape_of-marks c = c.by_depths.auto.marks ∙ c.by_nodes.auto.marks
-
-pub shape_of-keep : goal.shape_of-keep
-shape_of-keep c = c.by_nodes.auto.keep
-
-pub shape_of-centroids : goal.shape_of-centroids
-shape_of-centroids c = c.centroids_of.auto.centroids
-
-pub shape_of-cells : goal.shape_of-cells
-shape_of-cells c = c.by_depths.auto.cells
-
-pub shape_of-order : goal.shape_of-order
-shape_of-order c = c.by_depths.auto.order
-
-pub shape_of-place : goal.shape_of-place
-shape_of-place c = c.by_depths.auto.place
-
-pub shape_of-first : goal.shape_of-first
-shape_of-first c = c.by_depths.auto.first
 
 pub returns : goal.returns
 returns c =
