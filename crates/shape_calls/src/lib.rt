@@ -1,5 +1,4 @@
-// The calls of `run` with a history of 64 records that is held by value: it is lent to the call, and comes back. Whoever calls these needs no walk
-// by hand.
+// The calls of `run` with a history of 64 records that is held by value: it is lent to the call, and comes back.
 #![tactic(auto)]
 
 ghost use Rattle.run.specs.Run.{Opened, Answered};

@@ -5,7 +5,7 @@ ghost use Rattle.std.specs.Prelude.{◌≡◌, false, length};
 ghost use Rattle.run_plain.specs.Calls.{lists_of, answer_of, fresh as Calls·fresh};
 ghost use Rattle.run_answer.specs.Answers.{lengths_of};
 ghost use Rattle.run_open_checks.specs.Opens.{lengths_of as open_lengths};
-ghost use Rattle.shape_job.specs.Job.{asks as the-asks-Job, answer_to, answers_from, job_of, result_in};
+ghost use Rattle.shape_job.specs.Job.{asks as Job·asks, answer_to, answers_from, job_of, result_in};
 
 use run_plain::{Compliances, Heard, Phase, Progress, Reply, Said, Setting, State};
 use shape_calls::Turn;
@@ -39,7 +39,7 @@ pub fn fresh() -> State
 
 // Whether a part is asked for.
 fn asks(reply: Reply) -> bool
-    ensures { result ≡ the-asks-Job reply }
+    ensures { result ≡ Job·asks reply }
 {
     match reply {
         Reply::Refused(_) => false,

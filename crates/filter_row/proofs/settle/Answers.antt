@@ -15,9 +15,6 @@ overflow_add-end c = omega (arith, c.requires.count_value, chosen-le (stamped c.
 pub refusal-number-requires : goal.refusal-number-requires
 refusal-number-requires c = (omega (arith, c.requires.stamp_len_bound.1), omega (arith, c.requires.count_value, chosen-le (stamped c.args.stamp.now c.args.mark) (length c.args.stamp.now), c.requires.stamp_len_bound))
 
-pub returns-then-number-gt0 : goal.returns-then-number-gt0
-returns-then-number-gt0 c = record { ends = refl; numbers = c.refusal-number.ensures; all = λ e. absurd (omega (arith, c.if-number-gt0.true)); writes = λ e. absurd (omega (arith, c.if-number-gt0.true)) }
-
 pub sum_row-sum-requires : goal.sum_row-sum-requires
 sum_row-sum-requires c = let a = c.args in
     (rw c.requires.stamp_in_bounds.2 (within-found (stamped a.stamp.now a.mark) (length a.stamp.now) c.enumerate.new.found a.count c.enumerate.ensures c.requires.count_value), c.requires.stamp_in_bounds.2 ∙ sym c.requires.stamp_in_bounds.3)
