@@ -2,10 +2,10 @@
 #![tactic(auto)]
 
 ghost use Rattle.std.specs.Prelude.{◌≡◌, false, length};
-ghost use Rattle.run_plain.specs.Calls.{lists_of, answer_of, fresh as Calls·fresh};
+ghost use Rattle.run_plain.specs.Calls.{lists_of, answer_of, fresh as fresh_state};
 ghost use Rattle.run_answer.specs.Answers.{lengths_of};
 ghost use Rattle.run_open_checks.specs.Opens.{lengths_of as open_lengths};
-ghost use Rattle.shape_job.specs.Job.{asks as Job·asks, answer_to, answers_from, job_of, result_in};
+ghost use Rattle.shape_job.specs.Job.{asks as asks_of, answer_to, answers_from, job_of, result_in};
 
 use run_plain::{Compliances, Heard, Phase, Progress, Reply, Said, Setting, State};
 use shape_calls::Turn;
@@ -13,7 +13,7 @@ use topo::{Goal, Iteration, Sharpening};
 
 // No run is open.
 pub fn fresh() -> State
-    ensures { result ≡ Calls·fresh }
+    ensures { result ≡ fresh_state }
 {
     State {
         phase: Phase::Idle,
@@ -39,7 +39,7 @@ pub fn fresh() -> State
 
 // Whether a part is asked for.
 fn asks(reply: Reply) -> bool
-    ensures { result ≡ Job·asks reply }
+    ensures { result ≡ asks_of reply }
 {
     match reply {
         Reply::Refused(_) => false,

@@ -5,14 +5,14 @@
 mod parts;
 
 ghost use Rattle.std.specs.Prelude.{take};
-ghost use Rattle.shape_report.specs.Report.{text_of, refused as Report·refused, ran as Report·ran};
+ghost use Rattle.shape_report.specs.Report.{text_of, refused as refused_text, ran as ran_text};
 ghost use Rattle.shape_report.specs.Steps.{Wrote};
 
 use topo::{Iteration, Stop};
 
 // A refusal.
 pub fn refused(out: &mut [u8], number: u32) -> usize
-    ensures { Wrote (text_of (Report·refused number)) 0 out.old out.new result }
+    ensures { Wrote (text_of (refused_text number)) 0 out.old out.new result }
 {
     let a = parts::words(out, 0, b"refused ");
     let b = parts::decimal(out, a, number as u64);
@@ -28,7 +28,7 @@ pub fn ran(
     why: Stop,
     density: &[f64],
 ) -> usize
-    ensures { Wrote (text_of (Report·ran solid (take rounds history) why density.now)) 0 out.old out.new result }
+    ensures { Wrote (text_of (ran_text solid (take rounds history) why density.now)) 0 out.old out.new result }
 {
     let a = parts::solid_line(out, solid);
     let b = parts::round_lines(out, a, history, rounds);

@@ -1,6 +1,6 @@
 // A report's numbers and lines, each written from a place on. Below the surface: the place is in the list or at its end.
 ghost use Rattle.std.specs.Prelude.{◌≡◌, ◌≤◌, ◌<◌, min, [], ◌∷◌, length, take};
-ghost use Rattle.shape_report.specs.Report.{ascii, digit as Report·digit, hex as Report·hex, bits_of, next_bits, decimal as Report·decimal, solid_line, round_line, stop_name, stop_line, element_line, lines_from};
+ghost use Rattle.shape_report.specs.Report.{ascii, digit as digit_of, hex as hex_of, bits_of, next_bits, decimal as decimal_of, solid_line, round_line, stop_name, stop_line, element_line, lines_from};
 ghost use Rattle.shape_report.specs.Steps.{Wrote};
 
 use topo::{Iteration, Stop};
@@ -31,7 +31,7 @@ pub fn words(out: &mut [u8], at: usize, text: &[u8]) -> usize
 
 fn digit(d: u64) -> u8
     requires { d < 16 }
-    ensures { result ≡ Report·digit d }
+    ensures { result ≡ digit_of d }
 {
     if d < 10 {
         return 48 + d as u8;
@@ -41,7 +41,7 @@ fn digit(d: u64) -> u8
 
 fn hex(out: &mut [u8], at: usize, k: usize, n: u64) -> usize
     requires { at ≤ length out.old }
-    ensures { Wrote (Report·hex k n) at out.old out.new result }
+    ensures { Wrote (hex_of k n) at out.old out.new result }
 {
     if k == 0 {
         return at;
@@ -52,7 +52,7 @@ fn hex(out: &mut [u8], at: usize, k: usize, n: u64) -> usize
 
 pub fn decimal(out: &mut [u8], at: usize, n: u64) -> usize
     requires { at ≤ length out.old }
-    ensures { Wrote (Report·decimal n) at out.old out.new result }
+    ensures { Wrote (decimal_of n) at out.old out.new result }
 {
     if n < 10 {
         return byte(out, at, digit(n));
