@@ -53,6 +53,7 @@ fn part_at(j: usize) -> Place
     Place::Last
 }
 
+#[tactic(auto, unfolding(crate::specs::Strip::head_at, lists::specs::Lists::choose))]
 fn head_at(p: usize) -> Place
     ensures { result ≡ head_at p }
 {

@@ -24,7 +24,7 @@ put_row-requires c = let a = c.args in
     let found = c.enumerate.new.found in
     let p = stamped a.stamp.now a.mark in
     let n = length a.stamp.now in
-    let fit = has_room a.e (a.at + a.count) (length a.near.now) (length a.coef.now) (sym c.refusal-number.ensures ∙ omega (arith, c.if-number-gt0.false)) in
+    let fit = has_room a.e (a.at + a.count) (length a.near.now) (length a.coef.now) (sym c.refusal-number.ensures ∙ omega arith) in
     record { within = (rw c.requires.stamp_in_bounds.2 (within-found p n found a.count c.enumerate.ensures c.requires.count_value), (found-rising p n found a.count c.enumerate.ensures c.requires.count_value).rises, c.requires.stamp_in_bounds.2 ∙ sym c.requires.stamp_in_bounds.3); count_in_bounds = (fit.1, fit.2) }
 
 pub returns : goal.returns
