@@ -23,7 +23,7 @@ pub look-x1-requires : goal.look-x1-requires
 look-x1-requires c =
     let s : Filing = record { nodes = c.args.nodes.now; edges = c.args.edges.now; next = c.args.next } in
     let k1 : Kept 1 s (record { nodes = c.look-x0.new.nodes; edges = c.look-x0.new.edges; next = c.look-x0.result.next }) = keeps-one _ _ _ _ c.look-x0.ensures.filing in
-    ready _ _ _ _ _ 1 _ _ (omega arith) c.requires.0 c.requires.0.high c.requires.1.low k1
+    ready _ _ _ _ _ 1 _ _ (omega arith) c.requires.0 (omega (arith, c.requires.0.low, c.requires.0.high)) (omega (arith, c.requires.1.low, c.requires.1.high)) k1
 
 pub look-x2-requires : goal.look-x2-requires
 look-x2-requires c =

@@ -9,9 +9,6 @@ use lib.Seq.{length-take-le}
 use mathlib.Core.List.{List, ◌++◌}
 use mathlib.Core.Path.{sym, ap, ◌∙◌}
 
-pub slice_bounds-start_design-end-2 : goal.slice_bounds-start_design-end-2
-slice_bounds-start_design-end-2 c = sym (length-take-le _ _ c.requires)
-
 pub start_design-requires : goal.start_design-requires
 start_design-requires c = sym (length-take-le _ _ c.requires)
 
