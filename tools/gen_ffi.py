@@ -67,8 +67,8 @@ def code(text):
 
 
 def said(comment):
-    """The lines of a comment."""
-    return [line[2:].strip() for line in comment.splitlines()]
+    """The lines of a comment, but for one that says why a form of the sources stays."""
+    return [line for line in (line[2:].strip() for line in comment.splitlines()) if not line.startswith("Stays")]
 
 
 def read_structs():

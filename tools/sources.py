@@ -36,11 +36,12 @@ def rt(text):
     """Functions, types, constants, modules; fields and variants, alone and behind their type; methods behind it."""
     names, kind, of = set(), "", ""
     for line in text.splitlines():
-        m = re.match(r'(\s*)(?:pub )?(?:extern "C" )?(fn|struct|enum|const|mod|impl) (\w+)', line)
+        m = re.match(r'(\s*)(?:pub )?(?:extern "C" )?(fn|struct|enum|trait|const|static|mod|impl)(?:<.*?>)? (?:\S.* for )?(\w+)', line)
         if m and not m[1]:
             kind, of = m[2], m[3]
-            names.add(of)
-        elif m and kind == "impl":
+            if kind != "impl":
+                names.add(of)
+        elif m and kind in ("impl", "trait"):
             names.add(f"{of}::{m[3]}")
         elif kind in ("struct", "enum") and (m := re.match(r"    (?:pub )?(\w+)(?::|,|\(| \{)", line)):
             names |= {m[1], f"{of}::{m[1]}"}

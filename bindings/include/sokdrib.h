@@ -91,7 +91,7 @@ typedef struct {
     uint16_t level;
 } SokdribLevelNumbers;
 
-/* The counts of a mesh; or the refusal, with no counts. */
+/* What `block` returns, as it goes across C: the counts of a mesh; or the refusal, with no counts. */
 typedef struct {
     uint32_t refused;
     uint32_t nodes;
@@ -196,7 +196,7 @@ typedef struct {
     SokdribRunRecord entry;
 } SokdribRunStep;
 
-/* What goes by value from call to call: the jobs' numbers stand at their places, and zeros past them. */
+/* What goes from call to call: the jobs' numbers stand at their places, and zeros past them. */
 typedef struct {
     uint32_t jobs;
     uint32_t share[16];
@@ -204,11 +204,13 @@ typedef struct {
     uint32_t granted[16];
 } SokdribShift;
 
+/* What C is told of a beginning. */
 typedef struct {
     uint32_t refused;
     SokdribShift shift;
 } SokdribShiftBegun;
 
+/* What C is told of a grant. */
 typedef struct {
     uint32_t refused;
     uint32_t job;

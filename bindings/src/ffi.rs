@@ -30,7 +30,7 @@ pub struct LevelNumbers {
 }
 const _: () = assert!(size_of::<LevelNumbers>() == 8 && align_of::<LevelNumbers>() == 4);
 
-/// The counts of a mesh; or the refusal, with no counts.
+/// What `block` returns, as it goes across C: the counts of a mesh; or the refusal, with no counts.
 #[repr(C)]
 #[derive(Clone, Copy, Debug, Default, PartialEq)]
 pub struct Made {
@@ -171,7 +171,7 @@ pub struct RunStep {
 }
 const _: () = assert!(size_of::<RunStep>() == 176 && align_of::<RunStep>() == 8);
 
-/// What goes by value from call to call: the jobs' numbers stand at their places, and zeros past them.
+/// What goes from call to call: the jobs' numbers stand at their places, and zeros past them.
 #[repr(C)]
 #[derive(Clone, Copy, Debug, Default, PartialEq)]
 pub struct Shift {
@@ -182,6 +182,7 @@ pub struct Shift {
 }
 const _: () = assert!(size_of::<Shift>() == 196 && align_of::<Shift>() == 4);
 
+/// What C is told of a beginning.
 #[repr(C)]
 #[derive(Clone, Copy, Debug, Default, PartialEq)]
 pub struct ShiftBegun {
@@ -190,6 +191,7 @@ pub struct ShiftBegun {
 }
 const _: () = assert!(size_of::<ShiftBegun>() == 200 && align_of::<ShiftBegun>() == 4);
 
+/// What C is told of a grant.
 #[repr(C)]
 #[derive(Clone, Copy, Debug, Default, PartialEq)]
 pub struct ShiftGrant {

@@ -9,7 +9,7 @@ use topo_moduli::numbers::LevelNumbers;
 pub extern "C" fn sokdrib_level_with(modulus: f64) -> LevelNumbers
     ensures { result ≡ numbers_of (level_with modulus) }
 {
-    topo_moduli::numbers::numbers(topo_moduli::level_with(modulus))
+    LevelNumbers::from(topo_moduli::level_with(modulus))
 }
 
 // The greatest level whose modulus for material 1 is not above `stiffness`; 29 below the lowest modulus, above the highest, and for a not-a-number.
@@ -17,5 +17,5 @@ pub extern "C" fn sokdrib_level_with(modulus: f64) -> LevelNumbers
 pub extern "C" fn sokdrib_level_below(stiffness: f64) -> LevelNumbers
     ensures { result ≡ numbers_of (level_below stiffness) }
 {
-    topo_moduli::numbers::numbers(topo_moduli::level_below(stiffness))
+    LevelNumbers::from(topo_moduli::level_below(stiffness))
 }

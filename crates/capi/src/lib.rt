@@ -25,6 +25,7 @@ ghost use Rattle.faces.specs.Triangle.{dist2_to_triangle};
 ghost use Rattle.topo.specs.Levels.{modulus_of, level_of};
 ghost use Rattle.capi.specs.Each.{dist2_of};
 
+use faces::Triangle;
 use geom::{Mirror, Vec3};
 
 // The size of x.
@@ -253,66 +254,43 @@ pub extern "C" fn sokdrib_level_of(x: f64) -> u16
 }
 
 // The root of each of xs, as far as both lists go; the rest of out stays as lent.
+#[tactic(auto, using(lists::proofs::Filled::stored), unfolding(lists::specs::Lists::overwrite))]
 #[unsafe(no_mangle)]
 pub extern "C" fn sokdrib_sqrt_each(xs: &[f64], out: &mut [f64])
     ensures { out.new
         ≡ overwrite (λ k. sqrt_of binary64 (get_or xs.now k nan)) (min (length xs.now) (length out.old)) out.old }
 {
-    let n = lists::lesser(xs.len(), out.len());
-    let mut i = 0usize;
-    while i < n {
+    let n = xs.len().min(out.len());
+    for i in 0..n {
         out[i] = ieee_root::sqrt(xs[i]);
-        i += 1usize;
     }
 }
 
 // The hyperbolic tangent of each of zs, as far as both lists go; the rest of out stays as lent.
+#[tactic(auto, using(lists::proofs::Filled::stored), unfolding(lists::specs::Lists::overwrite))]
 #[unsafe(no_mangle)]
 pub extern "C" fn sokdrib_tanh_each(zs: &[f64], out: &mut [f64])
     ensures { out.new
         ≡ overwrite (λ k. tanh_of (get_or zs.now k nan)) (min (length zs.now) (length out.old)) out.old }
 {
-    let n = lists::lesser(zs.len(), out.len());
-    let mut i = 0usize;
-    while i < n {
+    let n = zs.len().min(out.len());
+    for i in 0..n {
         out[i] = ieee_tanh::tanh(zs[i]);
-        i += 1usize;
     }
 }
 
 // The square of the distance from p to the triangle whose corners stand in t one after the other.
+#[tactic(auto, unfolding(faces::specs::Corners::corners_of))]
 fn dist2_of(p: [f64; 3], t: [f64; 9]) -> f64
     ensures { result ≡ dist2_of p t }
 {
-    let a = Vec3 {
-        x: t[0],
-        y: t[1],
-        z: t[2],
-    };
-    let b = Vec3 {
-        x: t[3],
-        y: t[4],
-        z: t[5],
-    };
-    let c = Vec3 {
-        x: t[6],
-        y: t[7],
-        z: t[8],
-    };
-    faces::dist2_to_triangle(
-        Vec3 {
-            x: p[0],
-            y: p[1],
-            z: p[2],
-        },
-        a,
-        b,
-        c,
-    )
+    let t = Triangle::from(t);
+    faces::dist2_to_triangle(Vec3::from(p), t.a, t.b, t.c)
 }
 
 // The square of the distance from each point to the triangle at the same place, its corners in a row, as far as all three lists go;
 // the rest of out stays as lent.
+#[tactic(auto, using(lists::proofs::Filled::stored), unfolding(lists::specs::Lists::overwrite))]
 #[unsafe(no_mangle)]
 pub extern "C" fn sokdrib_dist2_each(points: &[[f64; 3]], triangles: &[[f64; 9]], out: &mut [f64])
     ensures { out.new
@@ -321,10 +299,8 @@ pub extern "C" fn sokdrib_dist2_each(points: &[[f64; 3]], triangles: &[[f64; 9]]
         (min (min (length points.now) (length triangles.now)) (length out.old))
         out.old }
 {
-    let n = lists::lesser(lists::lesser(points.len(), triangles.len()), out.len());
-    let mut k = 0usize;
-    while k < n {
+    let n = points.len().min(triangles.len()).min(out.len());
+    for k in 0..n {
         out[k] = dist2_of(points[k], triangles[k]);
-        k += 1usize;
     }
 }

@@ -5,7 +5,7 @@ ghost use Rattle.region_design.specs.Design.{Designed};
 ghost use Rattle.mesh_block.specs.Block as Block;
 
 use geom::Vec3;
-use mesh_block::Made;
+use mesh_block::{Lists, Made};
 
 // The volume of a tetrahedron, curved as its mid-side nodes make it. A node that is not there is the origin. This call and the three after it are
 // leaves: they work on nodes of any count and any bits, and refuse nothing; sokdrib_design refuses what is outside the domain.
@@ -50,7 +50,7 @@ pub extern "C" fn sokdrib_design(
 ) -> u32
     ensures { Designed nodes.now tets.now volumes.old volumes.new centroids.old centroids.new result }
 {
-    region_design::design(nodes, tets, volumes, centroids)
+    refusal::refused(region_design::design(nodes, tets, volumes, centroids))
 }
 
 // A box size long on each side, from the origin, in nx, ny and nz cells along the axes, each cell six tetrahedra. Fills the lists, with edges to work
@@ -67,7 +67,19 @@ pub extern "C" fn sokdrib_block(
     tris: &mut [[u32; 6]],
     edges: &mut [u32],
 ) -> Made
-    ensures { Block.Built (Block.grid_of (nx ∷ ny ∷ nz ∷ []) size) nodes.old nodes.new tets.old tets.new surfaces.old surfaces.new tris.old tris.new edges.old edges.new result }
+    ensures { Block.Built (Block.grid_of (nx ∷ ny ∷ nz ∷ []) size)
+        (Block.left nodes.old tets.old surfaces.old tris.old edges.old)
+        (Block.left nodes.new tets.new surfaces.new tris.new edges.new) result }
 {
-    mesh_block::block([nx, ny, nz], size, nodes, tets, surfaces, tris, edges)
+    Made::from(mesh_block::block(
+        [nx, ny, nz],
+        size,
+        Lists {
+            nodes,
+            tets,
+            surfaces,
+            tris,
+            edges,
+        },
+    ))
 }

@@ -1,13 +1,16 @@
 // What must stay solid, and whether a part is the same on both sides of a plane.
 ghost use Rattle.std.specs.Prelude.{◌≡◌};
+ghost use Rattle.refusal.specs.Refusals.{numbered};
 ghost use Rattle.region_passive.specs.Passive.{Marked};
 ghost use Rattle.region_asymmetry.specs.Asymmetry.{lent};
 ghost use Rattle.region_off_centre.specs.OffCentre.{off_centre_of};
 ghost use Rattle.capi.specs.Regions as Regions;
 
 use geom::Mirror;
-use region_asymmetry::Distance;
-use region_off_centre::Balance;
+use refusal::Refusal;
+use region_asymmetry as asymmetry;
+use region_off_centre::Reaches;
+use region_passive_checks::{Part, Work};
 
 // The elements that must stay solid, and 0 or the refusal: 3, 21, 9, 8 or 14, with all lists as before. A triangle has its three corners' numbers and
 // then those of the middles of its sides, and its surface is in surfaces. held and loaded are numbers of nodes. Set s of kept surfaces is kept from
@@ -34,10 +37,28 @@ pub extern "C" fn sokdrib_passive(
 ) -> u32
     ensures { Marked (record { nodes = nodes.now; tets = tets.now; tris = tris.now; surfaces = surfaces.now; held = held.now; loaded = loaded.now; starts = starts.now; kept = kept.now; depths = depths.now }) (record { marks = marks.old; keep = keep.old; centroids = centroids.old; cells = cells.old; order = order.old; place = place.old; first = first.old }) (record { marks = marks.new; keep = keep.new; centroids = centroids.new; cells = cells.new; order = order.new; place = place.new; first = first.new }) result }
 {
-    region_passive::passive(
-        nodes, tets, tris, surfaces, held, loaded, starts, kept, depths, marks, keep, centroids,
-        cells, order, place, first,
-    )
+    refusal::refused(region_passive::passive(
+        Part {
+            nodes,
+            tets,
+            tris,
+            surfaces,
+            held,
+            loaded,
+            starts,
+            kept,
+            depths,
+        },
+        Work {
+            marks,
+            keep,
+            centroids,
+            cells,
+            order,
+            place,
+            first,
+        },
+    ))
 }
 
 // How far a boundary is from its image, or the number of a refusal and 0.
@@ -48,30 +69,20 @@ pub struct Asymmetry {
     pub distance: f64,
 }
 
-fn distance_refused(d: Distance) -> u32
-    ensures { result ≡ Regions.distance_refused d }
-{
-    match d {
-        Distance::Refused(number) => number,
-        Distance::Apart(_) => 0,
-    }
-}
-
-fn distance_apart(d: Distance) -> f64
-    ensures { result ≡ Regions.distance_apart d }
-{
-    match d {
-        Distance::Refused(_) => 0.0,
-        Distance::Apart(far) => far,
-    }
-}
-
-fn distance_told(d: Distance) -> Asymmetry
-    ensures { result ≡ Regions.distance_told d }
-{
-    Asymmetry {
-        refused: distance_refused(d),
-        distance: distance_apart(d),
+impl From<Result<f64, Refusal>> for Asymmetry {
+    fn from(outcome: Result<f64, Refusal>) -> Asymmetry
+        ensures { result ≡ Regions.distance_told (numbered outcome) }
+    {
+        match outcome {
+            Err(why) => Asymmetry {
+                refused: u32::from(why),
+                distance: 0.0,
+            },
+            Ok(distance) => Asymmetry {
+                refused: 0,
+                distance,
+            },
+        }
     }
 }
 
@@ -95,10 +106,17 @@ pub extern "C" fn sokdrib_asymmetry(
         (lent faces.old kx.old ky.old kz.old order.old scratch.old boxes.old seen.old)
         (lent faces.new kx.new ky.new kz.new order.new scratch.new boxes.new seen.new) result }
 {
-    let d = region_asymmetry::asymmetry(
-        nodes, tris, mirror, faces, kx, ky, kz, order, scratch, boxes, seen,
-    );
-    distance_told(d)
+    let work = asymmetry::Work {
+        faces,
+        kx,
+        ky,
+        kz,
+        order,
+        scratch,
+        boxes,
+        seen,
+    };
+    Asymmetry::from(asymmetry::asymmetry(nodes, tris, mirror, work))
 }
 
 // How far points reach to each side of a plane, where they are off its middle. Where they are about even, where there are none, and at a refusal, off is
@@ -112,54 +130,30 @@ pub struct OffCentre {
     pub behind: f64,
 }
 
-fn balance_refused(b: Balance) -> u32
-    ensures { result ≡ Regions.balance_refused b }
-{
-    match b {
-        Balance::Refused(number) => number,
-        Balance::Even => 0,
-        Balance::Reaches(_, _) => 0,
-    }
-}
-
-fn balance_off(b: Balance) -> bool
-    ensures { result ≡ Regions.balance_off b }
-{
-    match b {
-        Balance::Refused(_) => false,
-        Balance::Even => false,
-        Balance::Reaches(_, _) => true,
-    }
-}
-
-fn balance_ahead(b: Balance) -> f64
-    ensures { result ≡ Regions.balance_ahead b }
-{
-    match b {
-        Balance::Refused(_) => 0.0,
-        Balance::Even => 0.0,
-        Balance::Reaches(ahead, _) => ahead,
-    }
-}
-
-fn balance_behind(b: Balance) -> f64
-    ensures { result ≡ Regions.balance_behind b }
-{
-    match b {
-        Balance::Refused(_) => 0.0,
-        Balance::Even => 0.0,
-        Balance::Reaches(_, behind) => behind,
-    }
-}
-
-fn balance_told(b: Balance) -> OffCentre
-    ensures { result ≡ Regions.balance_told b }
-{
-    OffCentre {
-        refused: balance_refused(b),
-        off: balance_off(b),
-        ahead: balance_ahead(b),
-        behind: balance_behind(b),
+impl From<Result<Option<Reaches>, Refusal>> for OffCentre {
+    fn from(outcome: Result<Option<Reaches>, Refusal>) -> OffCentre
+        ensures { result ≡ Regions.off_centre_told (numbered outcome) }
+    {
+        match outcome {
+            Err(why) => OffCentre {
+                refused: u32::from(why),
+                off: false,
+                ahead: 0.0,
+                behind: 0.0,
+            },
+            Ok(None) => OffCentre {
+                refused: 0,
+                off: false,
+                ahead: 0.0,
+                behind: 0.0,
+            },
+            Ok(Some(reaches)) => OffCentre {
+                refused: 0,
+                off: true,
+                ahead: reaches.ahead,
+                behind: reaches.behind,
+            },
+        }
     }
 }
 
@@ -167,8 +161,7 @@ fn balance_told(b: Balance) -> OffCentre
 // width; or the refusal: 3, 9 or 11.
 #[unsafe(no_mangle)]
 pub extern "C" fn sokdrib_off_centre(points: &[[f64; 3]], mirror: Mirror) -> OffCentre
-    ensures { result ≡ Regions.balance_told (off_centre_of points.now mirror) }
+    ensures { result ≡ Regions.off_centre_told (off_centre_of points.now mirror) }
 {
-    let b = region_off_centre::off_centre(points, mirror);
-    balance_told(b)
+    OffCentre::from(region_off_centre::off_centre(points, mirror))
 }

@@ -9,7 +9,7 @@ use shift::{Shift, ShiftBegun, ShiftGrant};
 pub extern "C" fn sokdrib_shift_begin(jobs: &[[u32; 2]]) -> ShiftBegun
     ensures { result ≡ begin_of jobs.now }
 {
-    shift::begin(jobs)
+    ShiftBegun::from(Shift::begin(jobs))
 }
 
 // The next question, to one of the jobs named: the job, and the shift for the next call. 20, 30 and 31 leave the shift as it was lent.
@@ -17,5 +17,7 @@ pub extern "C" fn sokdrib_shift_begin(jobs: &[[u32; 2]]) -> ShiftBegun
 pub extern "C" fn sokdrib_shift_grant(shift: Shift, named: &[u32]) -> ShiftGrant
     ensures { result ≡ grant_of shift named.now }
 {
-    shift::grant(shift, named)
+    let mut next = shift;
+    let outcome = next.grant(named);
+    ShiftGrant::new(outcome, next)
 }

@@ -1,9 +1,10 @@
 -- Points in cubes, the points of a block of cubes, and a list changed at the places that a test picks. Definitions only.
-use Rattle.std.specs.Prelude.{ℕ, suc, ◌+◌, Bool, ◌&&◌, cond, List, [], ◌∷◌, length, get_or, leb, ltb, Float}
+use Rattle.std.specs.Prelude.{ℕ, suc, ◌+◌, ◌-◌, ◌^◌, min, Bool, ◌&&◌, cond, List, [], ◌∷◌, length, get_or, leb, ltb, Float}
 use Rattle.std.specs.Float.{nan, binary64}
 use Rattle.std.specs.Float.Ieee.{sub, div}
 use Rattle.ieee_whole.specs.Whole.{floor_at}
 use Rattle.geom.specs.declared.Vec3.{Vec3}
+use Rattle.cells.specs.declared.Block.{Block}
 
 -- filter.rs, `Grid::cube`: the whole number at or below (v − from)/size, each operation rounded once; as of all cells, 2^63 more
 unfoldable pub cell_at : Float → Float → Float → ℕ
@@ -40,6 +41,17 @@ box_cell a b c x0 x1 y0 y1 z0 z1 = within x0 x1 a && (within y0 y1 b && within z
 -- there is a point i, and its cube is in these ranges
 unfoldable pub in_box : List (List ℕ) → ℕ → ℕ → ℕ → ℕ → ℕ → ℕ → ℕ → Bool
 in_box cells x0 x1 y0 y1 z0 z1 i = ltb i (length cells) && box_cell (axis cells i 0) (axis cells i 1) (axis cells i 2) x0 x1 y0 y1 z0 z1
+
+-- the block from one cube below lo to one above hi on each axis, where there is one
+abbrev pub about : List ℕ → List ℕ → Block
+about lo hi = record {
+  x0 = get_or lo 0 0 - 1;
+  x1 = min (get_or hi 0 0 + 1) (2 ^ 64 - 1);
+  y0 = get_or lo 1 0 - 1;
+  y1 = min (get_or hi 1 0 + 1) (2 ^ 64 - 1);
+  z0 = get_or lo 2 0 - 1;
+  z1 = min (get_or hi 2 0 + 1) (2 ^ 64 - 1);
+}
 
 -- each place i that p picks gets g i of what stood there, the places counted from k
 unfoldable pub changed_from : {A : Type 0} → ℕ → (ℕ → Bool) → (ℕ → A → A) → List A → List A

@@ -1,2 +1,2 @@
 -- `Filings` has why what the test accepts is a filing.
-mod Filings
+pub mod Filings

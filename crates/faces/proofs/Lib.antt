@@ -1,3 +1,2 @@
--- `Regions` has a chain of six tests, value by value. `Cases` has the distances of 01's proved cases.
-mod Regions
+-- `Cases` has the distances of 01's proved cases.
 pub mod Cases

@@ -4,9 +4,11 @@
 
 ghost use Rattle.std.specs.Prelude.{◌≡◌};
 ghost use Rattle.faces.specs.Triangle.{dist2_to_triangle};
+ghost use Rattle.faces.specs.Corners as Corners;
 
 use geom::Vec3;
 
+#[tactic(auto, unfolding(crate::specs::Triangle::dist2_to_triangle, lists::specs::Lists::choose))]
 pub fn dist2_to_triangle(p: Vec3, a: Vec3, b: Vec3, c: Vec3) -> f64
     ensures { result ≡ dist2_to_triangle p a b c }
 {
@@ -49,4 +51,36 @@ pub fn dist2_to_triangle(p: Vec3, a: Vec3, b: Vec3, c: Vec3) -> f64
     let v = vb * denom;
     let w = vc * denom;
     p.sub(a.add(ab.scale(v)).add(ac.scale(w))).len2()
+}
+
+// A triangle by its corners.
+#[derive(Clone, Copy)]
+pub struct Triangle {
+    pub a: Vec3,
+    pub b: Vec3,
+    pub c: Vec3,
+}
+
+// A triangle as it is stored: the coordinates of one corner after the other.
+impl From<[f64; 9]> for Triangle {
+    #[tactic(auto, unfolding(crate::specs::Corners::corners_of))]
+    fn from(t: [f64; 9]) -> Triangle
+        ensures { result ≡ Corners.corners_of t }
+    {
+        Triangle {
+            a: Vec3::new(t[0], t[1], t[2]),
+            b: Vec3::new(t[3], t[4], t[5]),
+            c: Vec3::new(t[6], t[7], t[8]),
+        }
+    }
+}
+
+impl From<Triangle> for [f64; 9] {
+    fn from(t: Triangle) -> [f64; 9]
+        ensures { result ≡ Corners.flat t }
+    {
+        [
+            t.a.x, t.a.y, t.a.z, t.b.x, t.b.y, t.b.z, t.c.x, t.c.y, t.c.z,
+        ]
+    }
 }

@@ -9,7 +9,7 @@ use Rattle.lists.specs.Lists.{fold_to, fold_over, sum_to, any_to, choose, zero64
 use Rattle.geom.specs.Vectors.{least, greatest, dist}
 use Rattle.geom.specs.declared.Vec3.{Vec3}
 use Rattle.cells.specs.Cells.{cell_at, near_cell}
-use Rattle.lent.specs.Points.{point}
+use Rattle.geom.specs.Points.{point}
 use Rattle.filter_group.specs.Group.{mirrors, members, image_in}
 
 -- the numbers below n that p picks, in rising order

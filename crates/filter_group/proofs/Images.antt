@@ -13,7 +13,7 @@ use Rattle.lists.specs.Lists.{choose}
 use Rattle.geom.specs.Vectors.{image}
 use Rattle.geom.specs.declared.Vec3.{Vec3}
 use Rattle.geom.specs.declared.Mirror.{Mirror}
-use Rattle.lent.specs.Points.{plane}
+use Rattle.geom.specs.Points.{plane}
 use Rattle.filter_group.specs.Group.{unit, mirrors, image_in}
 use Rattle.filter_group.specs.Planes.{stand_in}
 

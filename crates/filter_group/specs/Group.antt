@@ -7,7 +7,7 @@ use Rattle.ieee.specs.Basic.{abs_of}
 use Rattle.geom.specs.Vectors.{vec, dot, len, normalized, image}
 use Rattle.geom.specs.declared.Vec3.{Vec3}
 use Rattle.geom.specs.declared.Mirror.{Mirror}
-use Rattle.lent.specs.Points.{plane}
+use Rattle.geom.specs.Points.{plane}
 use Rattle.lent.specs.Domain.{plane_bad}
 
 -- 1e-9

@@ -4,7 +4,7 @@
 ghost use Rattle.std.specs.Prelude.{◌≡◌, not, ◌≤◌, ◌<◌, length, get_or};
 ghost use Rattle.lists.specs.Lists.{choose};
 ghost use Rattle.geom.specs.Vectors as Vectors;
-ghost use Rattle.lent.specs.Points.{plane};
+ghost use Rattle.geom.specs.Points.{plane};
 ghost use Rattle.filter_group.specs.Group.{unit, skew, planes_bad, skew_before, planes_skew, planes_refusal, mirrors, image_in};
 ghost use Rattle.lent.specs.Domain.{plane_bad};
 ghost use Rattle.filter_group.specs.Planes.{mirrors_of, stand_in};

@@ -7,7 +7,7 @@ use Rattle.geom.specs.Vectors.{dist}
 use Rattle.geom.specs.declared.Vec3.{Vec3}
 use Rattle.cells.specs.Cells.{axis, cell_of, box_cell, in_box, changed}
 use Rattle.cells.specs.Filing.{Filed}
-use Rattle.lent.specs.Points.{point}
+use Rattle.geom.specs.Points.{point}
 use Rattle.filter.specs.Filter.{chosen, middle, share, counts, seen, lowest, highest}
 use Rattle.filter.specs.declared.grid.Grid.{Grid}
 use Rattle.filter.specs.Steps.{Settles}

@@ -14,7 +14,7 @@ use Rattle.cells.specs.Cells.{axis, box_cell, in_box}
 use Rattle.cells.specs.Filing.{Spanned}
 use Rattle.cells.proofs.Walks.{Walked, walk_none, walk-hit, walk_miss, walk-done}
 use Rattle.cells.proofs.Boxes.{box-own, box-cell}
-use Rattle.lent.specs.Points.{point}
+use Rattle.geom.specs.Points.{point}
 use Rattle.filter.specs.Filter.{middle}
 use Rattle.filter_look.specs.Steps.{Ready, Lists, Looked, seen_at, left_over, nearer, gained, near_box, marked, Took}
 use Rattle.filter.specs.declared.grid.Grid.{Grid}

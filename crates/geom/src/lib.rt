@@ -3,6 +3,7 @@
 
 ghost use Rattle.std.specs.Prelude.{◌≡◌};
 ghost use Rattle.geom.specs.Vectors as Vectors;
+ghost use Rattle.geom.specs.Points as Points;
 
 #[repr(C)]
 #[derive(Clone, Copy)]
@@ -19,6 +20,7 @@ impl Vec3 {
         Vec3 { x, y, z }
     }
 
+    #[tactic(auto, unfolding(crate::specs::Vectors::plus))]
     pub fn add(self, o: Vec3) -> Vec3
         ensures { result ≡ Vectors.plus self o }
     {
@@ -29,6 +31,7 @@ impl Vec3 {
         }
     }
 
+    #[tactic(auto, unfolding(crate::specs::Vectors::less))]
     pub fn sub(self, o: Vec3) -> Vec3
         ensures { result ≡ Vectors.less self o }
     {
@@ -39,6 +42,7 @@ impl Vec3 {
         }
     }
 
+    #[tactic(auto, unfolding(crate::specs::Vectors::scaled))]
     pub fn scale(self, k: f64) -> Vec3
         ensures { result ≡ Vectors.scaled self k }
     {
@@ -49,6 +53,7 @@ impl Vec3 {
         }
     }
 
+    #[tactic(auto, unfolding(crate::specs::Vectors::least))]
     pub fn min(self, o: Vec3) -> Vec3
         ensures { result ≡ Vectors.least self o }
     {
@@ -59,6 +64,7 @@ impl Vec3 {
         }
     }
 
+    #[tactic(auto, unfolding(crate::specs::Vectors::greatest))]
     pub fn max(self, o: Vec3) -> Vec3
         ensures { result ≡ Vectors.greatest self o }
     {
@@ -69,12 +75,14 @@ impl Vec3 {
         }
     }
 
+    #[tactic(auto, unfolding(crate::specs::Vectors::dot))]
     pub fn dot(self, o: Vec3) -> f64
         ensures { result ≡ Vectors.dot self o }
     {
         self.x * o.x + self.y * o.y + self.z * o.z
     }
 
+    #[tactic(auto, unfolding(crate::specs::Vectors::cross))]
     pub fn cross(self, o: Vec3) -> Vec3
         ensures { result ≡ Vectors.cross self o }
     {
@@ -85,24 +93,28 @@ impl Vec3 {
         }
     }
 
+    #[tactic(auto, unfolding(crate::specs::Vectors::len2))]
     pub fn len2(self) -> f64
         ensures { result ≡ Vectors.len2 self }
     {
         self.dot(self)
     }
 
+    #[tactic(auto, unfolding(crate::specs::Vectors::len))]
     pub fn len(self) -> f64
         ensures { result ≡ Vectors.len self }
     {
         ieee_root::sqrt(self.len2())
     }
 
+    #[tactic(auto, unfolding(crate::specs::Vectors::dist))]
     pub fn dist(self, o: Vec3) -> f64
         ensures { result ≡ Vectors.dist self o }
     {
         self.sub(o).len()
     }
 
+    #[tactic(auto, unfolding(crate::specs::Vectors::normalized))]
     pub fn normalized(self) -> Vec3
         ensures { result ≡ Vectors.normalized self }
     {
@@ -114,10 +126,36 @@ impl Vec3 {
         }
     }
 
+    #[tactic(auto, unfolding(crate::specs::Vectors::all_finite))]
     pub fn is_finite(self) -> bool
         ensures { result ≡ Vectors.all_finite self }
     {
         ieee::is_finite(self.x) & ieee::is_finite(self.y) & ieee::is_finite(self.z)
+    }
+}
+
+// A point as it is lent: x, y, z.
+impl From<[f64; 3]> for Vec3 {
+    ghost from_gives = { λ p v. v ≡ Points.point p };
+
+    fn from(p: [f64; 3]) -> Vec3
+        ensures { result ≡ Points.point p }
+    {
+        Vec3 {
+            x: p[0],
+            y: p[1],
+            z: p[2],
+        }
+    }
+}
+
+impl From<Vec3> for [f64; 3] {
+    ghost from_gives = { λ v p. p ≡ Points.stored v };
+
+    fn from(v: Vec3) -> [f64; 3]
+        ensures { result ≡ Points.stored v }
+    {
+        [v.x, v.y, v.z]
     }
 }
 
@@ -131,11 +169,38 @@ pub struct Mirror {
 
 impl Mirror {
     // Where p is seen in the plane.
+    #[tactic(auto, unfolding(crate::specs::Vectors::image))]
     pub fn image(self, p: Vec3) -> Vec3
         ensures { result ≡ Vectors.image self p }
     {
         let point = self.point;
         let normal = self.normal;
         p.sub(normal.scale(2.0 * p.sub(point).dot(normal)))
+    }
+}
+
+// A plane as it is lent: its point, then its normal.
+impl From<[f64; 6]> for Mirror {
+    ghost from_gives = { λ p m. m ≡ Points.plane p };
+
+    fn from(p: [f64; 6]) -> Mirror
+        ensures { result ≡ Points.plane p }
+    {
+        Mirror {
+            point: Vec3::new(p[0], p[1], p[2]),
+            normal: Vec3::new(p[3], p[4], p[5]),
+        }
+    }
+}
+
+impl From<Mirror> for [f64; 6] {
+    ghost from_gives = { λ m p. p ≡ Points.flat m };
+
+    fn from(m: Mirror) -> [f64; 6]
+        ensures { result ≡ Points.flat m }
+    {
+        let p = m.point;
+        let n = m.normal;
+        [p.x, p.y, p.z, n.x, n.y, n.z]
     }
 }

@@ -8,7 +8,7 @@ use lib.Ieee.Bits.{of_bits-to_bits, to_bits-of_bits, nan_bits_is, nan_bits_above
 use borrow.Author.Tests.{lt-ltb, le-ltb}
 use Rattle.lists.proofs.Bools.{never}
 
-nan_of : (x : Float) → is_nan x ≡ true → x ≡ nan
+pub nan_of : (x : Float) → is_nan x ≡ true → x ≡ nan
 unfolding is_nan
 nan_of nan h = refl
 nan_of (inf s) h = never h refl

@@ -6,12 +6,19 @@ ghost use Rattle.std.specs.Float.Ieee.{to_bits, of_bits};
 ghost use Rattle.std.specs.Float.{binary64};
 ghost use Rattle.ieee_bits.specs.Bits.{total_key};
 
+// The bit of the sign, and the patterns of the infinity above and of a NaN.
+const SIGN: u64 = 0x8000_0000_0000_0000;
+
+const INFINITY: u64 = 0x7ff0_0000_0000_0000;
+
+const NAN: u64 = 0x7ff8_0000_0000_0000;
+
 // The bit pattern of x. Every NaN is written as 7FF8000000000000.
 pub fn to_bits(x: f64) -> u64
     ensures { result ≡ to_bits binary64 x }
 {
-    if x != x {
-        return 0x7ff8_0000_0000_0000;
+    if x.is_nan() {
+        return NAN;
     }
     f64::to_bits(x)
 }
@@ -20,19 +27,20 @@ pub fn to_bits(x: f64) -> u64
 pub fn from_bits(b: u64) -> f64
     ensures { result ≡ of_bits binary64 b }
 {
-    if b % 0x8000_0000_0000_0000 > 0x7ff0_0000_0000_0000 {
-        return 0.0 / 0.0;
+    if b % SIGN > INFINITY {
+        return f64::NAN;
     }
     f64::from_bits(b)
 }
 
 // The place of x in totalOrder, as a number.
+#[tactic(auto, unfolding(crate::specs::Bits::total_key))]
 pub fn total_key(x: f64) -> u64
     ensures { result ≡ total_key x }
 {
     let b = to_bits(x);
-    if b < 0x8000_0000_0000_0000 {
-        return b + 0x8000_0000_0000_0000;
+    if b < SIGN {
+        return b + SIGN;
     }
-    0xffff_ffff_ffff_ffff - b
+    u64::MAX - b
 }

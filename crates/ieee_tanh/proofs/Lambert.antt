@@ -1,9 +1,9 @@
--- The continued fraction one step further, and the law that `tanh` is odd. Assumes nothing.
+-- The continued fraction before its first step, and the law that `tanh` is odd. Assumes nothing.
 use mathlib.Core.Path.{◌≡◌, sym, ap, ◌∙◌}
-use Prim.Native.Nat.{ℕ, ◌+◌, ◌-◌, ◌*◌}
+use Prim.Native.Nat.{ℕ, ◌-◌, ◌*◌}
 use lib.Ieee.{Float, binary64, add, mul, div, neg}
 use Rattle.lists.specs.Lists.{fold_to}
-use Rattle.lists.proofs.Laws.{fold_to-none, fold_to-more}
+use Rattle.lists.proofs.Laws.{fold_to-none}
 use Rattle.ieee.specs.Basic.{whole64}
 use Rattle.ieee_tanh.specs.Tanh.{lambert, tanh_of}
 use Rattle.ieee.proofs.Sign.{mul-neg-neg, div-neg}
@@ -14,10 +14,6 @@ turn zz i r = add binary64 (whole64 (61 - 2 * i)) (div binary64 zz r)
 pub lambert-none : (z : Float) → whole64 63 ≡ lambert z 0
 unfolding lambert
 lambert-none z = sym (fold_to-none (turn (mul binary64 z z)) (whole64 63))
-
-pub lambert-more : (z : Float) (i : ℕ) → add binary64 (whole64 (61 - 2 * i)) (div binary64 (mul binary64 z z) (lambert z i)) ≡ lambert z (i + 1)
-unfolding lambert
-lambert-more z i = fold_to-more (turn (mul binary64 z z)) (whole64 63) i
 
 -- the fraction sees only the square
 lambert-neg : (z : Float) (n : ℕ) → lambert (neg z) n ≡ lambert z n

@@ -6,32 +6,36 @@ ghost use Rattle.ieee_whole.specs.Whole.{floor_at, round_half_away};
 
 use std::num::truncating_f64_to_u64;
 
+// 2^63, which stands for 0 where 2^63 is added.
+const MIDDLE: u64 = 0x8000_0000_0000_0000;
+// 2^53: from there on a float has no fraction.
+const WHOLE: u64 = 0x20_0000_0000_0000;
+
 // `x.floor() as i64` with 2^63 added, so that it is unsigned.
 pub fn floor_at(x: f64) -> u64
     ensures { result ≡ floor_at x }
 {
     if x < 9223372036854775808.0 {
         if x >= 0.0 {
-            return 9223372036854775808 + truncating_f64_to_u64(x);
+            return MIDDLE + truncating_f64_to_u64(x);
         }
         if x > -9223372036854775808.0 {
             let y = -x;
             let u = truncating_f64_to_u64(y);
-            // from 2^53 on a float has no fraction
-            if u < 9007199254740992 {
+            if u < WHOLE {
                 if (u as f64) < y {
-                    return 9223372036854775807 - u;
+                    return MIDDLE - 1 - u;
                 }
-                return 9223372036854775808 - u;
+                return MIDDLE - u;
             }
-            return 9223372036854775808 - u;
+            return MIDDLE - u;
         }
         return 0;
     }
     if x >= 9223372036854775808.0 {
-        return 18446744073709551615;
+        return u64::MAX;
     }
-    9223372036854775808
+    MIDDLE
 }
 
 // `x.round() as u64`: a half goes away from zero.
@@ -46,7 +50,7 @@ pub fn round_half_away(x: f64) -> u64
         if x < 18446744073709551616.0 {
             return truncating_f64_to_u64(x);
         }
-        return 18446744073709551615;
+        return u64::MAX;
     }
     0
 }

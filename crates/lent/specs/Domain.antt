@@ -5,7 +5,7 @@ use Rattle.std.specs.Float.Ieee.{lt, le, of_bits}
 use Rattle.lists.specs.Lists.{any_to, zero64}
 use Rattle.ieee.specs.Basic.{abs_of, is_finite}
 use Rattle.geom.specs.Vectors.{len}
-use Rattle.lent.specs.Points.{plane}
+use Rattle.geom.specs.Points.{plane}
 
 -- 3: "At most 65,535 elements or triangles and 1,048,576 nodes."
 abbrev pub too_many_elements : ℕ → Bool

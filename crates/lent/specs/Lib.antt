@@ -1,5 +1,4 @@
--- `Points` has points and planes as they are lent, `Domain` 01's domain, `Refusals` the first refusal of several, `Lent` what a call leaves in lent lists.
-pub mod Points
+-- `Domain` 01's domain, `Refusals` the first refusal of several, `Lent` what a call leaves in lent lists.
 pub mod Domain
 pub mod Refusals
 pub mod Lent

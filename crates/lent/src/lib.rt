@@ -2,20 +2,16 @@
 #![tactic(auto)]
 
 ghost use Rattle.std.specs.Prelude.{◌≡◌};
-ghost use Rattle.lent.specs.Points as Points;
+ghost use Rattle.geom.specs.Points as Points;
 ghost use Rattle.lent.specs.Domain.{outside_domain, point_bad, points_bad, plane_bad, volume_bad, volumes_bad, radius_bad, is_depth, depth_bad, depths_bad};
 
-use geom::Vec3;
+use geom::{Mirror, Vec3};
 
-// A lent point.
+// A lent point. It goes when nobody calls it.
 pub fn point(p: [f64; 3]) -> Vec3
     ensures { result ≡ Points.point p }
 {
-    Vec3 {
-        x: p[0],
-        y: p[1],
-        z: p[2],
-    }
+    Vec3::from(p)
 }
 
 // Whether a number is no coordinate of the domain.
@@ -31,29 +27,27 @@ pub fn point_bad(p: [f64; 3]) -> bool
     beyond(p[0]) | beyond(p[1]) | beyond(p[2])
 }
 
+#[tactic(auto, unfolding(lists::specs::Lists::any_to))]
 pub fn points_bad(points: &[[f64; 3]]) -> bool
     ensures { result ≡ points_bad points.now }
 {
-    let mut t = false;
-    let mut i = 0usize;
-    while i < points.len() {
-        t = t | point_bad(points[i]);
-        i += 1usize;
+    let mut found = false;
+    for p in points {
+        found |= point_bad(*p);
     }
-    t
+    found
 }
 
 // Whether a plane is outside the domain, or its normal no longer than 1e-12.
+#[tactic(auto, unfolding(lists::specs::Lists::any_to, crate::specs::Domain::plane_bad))]
 pub fn plane_bad(p: [f64; 6]) -> bool
     ensures { result ≡ plane_bad p }
 {
-    let a = beyond(p[0]) | beyond(p[1]) | beyond(p[2]) | beyond(p[3]) | beyond(p[4]) | beyond(p[5]);
-    let normal = Vec3 {
-        x: p[3],
-        y: p[4],
-        z: p[5],
-    };
-    a | !(normal.len() > 1e-12)
+    let mut outside = false;
+    for v in p {
+        outside |= beyond(v);
+    }
+    outside | !(Mirror::from(p).normal.len() > 1e-12)
 }
 
 fn volume_bad(v: f64) -> bool
@@ -62,16 +56,15 @@ fn volume_bad(v: f64) -> bool
     !((v > 0.0) & (v <= 1e20))
 }
 
+#[tactic(auto, unfolding(lists::specs::Lists::any_to))]
 pub fn volumes_bad(volumes: &[f64]) -> bool
     ensures { result ≡ volumes_bad volumes.now }
 {
-    let mut t = false;
-    let mut i = 0usize;
-    while i < volumes.len() {
-        t = t | volume_bad(volumes[i]);
-        i += 1usize;
+    let mut found = false;
+    for v in volumes {
+        found |= volume_bad(*v);
     }
-    t
+    found
 }
 
 pub fn radius_bad(r: f64) -> bool
@@ -81,26 +74,27 @@ pub fn radius_bad(r: f64) -> bool
 }
 
 // Whether a depth is one: finite and above 0.
+#[tactic(auto, unfolding(crate::specs::Domain::is_depth))]
 pub fn is_depth(depth: f64) -> bool
     ensures { result ≡ is_depth depth }
 {
     ieee::is_finite(depth) & (depth > 0.0)
 }
 
+#[tactic(auto, unfolding(crate::specs::Domain::depth_bad))]
 fn depth_bad(depth: f64) -> bool
     ensures { result ≡ depth_bad depth }
 {
     is_depth(depth) & radius_bad(depth)
 }
 
+#[tactic(auto, unfolding(lists::specs::Lists::any_to, crate::specs::Domain::depths_bad))]
 pub fn depths_bad(depths: &[f64]) -> bool
     ensures { result ≡ depths_bad depths.now }
 {
     let mut found = false;
-    let mut s = 0usize;
-    while s < depths.len() {
-        found = found | depth_bad(depths[s]);
-        s += 1usize;
+    for depth in depths {
+        found |= depth_bad(*depth);
     }
     found
 }

@@ -6,13 +6,15 @@ ghost use Rattle.std.specs.Float.{nan};
 ghost use Rattle.lists.specs.Lists.{sum_to, choose};
 
 // The number where the test holds, and the rest otherwise: a link in a chain of refusals.
+#[tactic(auto, unfolding(crate::specs::Lists::choose))]
 pub fn first(test: bool, number: u32, rest: u32) -> u32
     ensures { result ≡ choose test number rest }
 {
     if test { number } else { rest }
 }
 
-pub fn either(test: bool, a: f64, b: f64) -> f64
+#[tactic(auto, unfolding(crate::specs::Lists::choose))]
+pub fn either<T: Copy>(test: bool, a: T, b: T) -> T
     ensures { result ≡ choose test a b }
 {
     if test { a } else { b }
@@ -26,14 +28,13 @@ pub fn lesser(a: usize, b: usize) -> usize
 }
 
 // The sum from the left, each addition rounded.
+#[tactic(auto, unfolding(crate::specs::Lists::sum_to, crate::specs::Lists::fold_to))]
 pub fn sum(a: &[f64]) -> f64
     ensures { result ≡ sum_to (λ k. get_or a.now k nan) (length a.now) }
 {
     let mut t = 0.0;
-    let mut i = 0usize;
-    while i < a.len() {
-        t = t + a[i];
-        i += 1usize;
+    for x in a {
+        t += *x;
     }
     t
 }

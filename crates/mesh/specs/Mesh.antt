@@ -1,13 +1,12 @@
 -- mesh.rs: `volume`, `corner_volume`, `centroid`, `extent`. Each operation is rounded once, in the Rust's order. Definitions only.
-use Rattle.std.specs.Prelude.{ℕ, List, [], length, get_or, eqb, Float}
-use Rattle.std.specs.Float.{nan, binary64}
+use Rattle.std.specs.Prelude.{ℕ, List, [], ◌∷◌, length, get_or, eqb, Float}
+use Rattle.std.specs.Float.{binary64}
 use Rattle.std.specs.Float.Ieee.{add, sub, mul, div, of_bits}
 use Rattle.lists.specs.Lists.{fold_to, choose, zero64}
 use Rattle.ieee.specs.Basic.{abs_of, one64}
 use Rattle.geom.specs.Vectors.{vec, plus, less, scaled, dot, cross, least, greatest, len}
 use Rattle.geom.specs.declared.Vec3.{Vec3}
-use Rattle.lent.specs.Points.{point, stored}
-use Rattle.mesh.specs.declared.Ten.{Ten}
+use Rattle.geom.specs.Points.{point, stored}
 
 abbrev pub origin : Vec3
 origin = vec zero64 zero64 zero64
@@ -20,10 +19,11 @@ node_at nodes n = point (get_or nodes n (stored origin))
 abbrev pub node_of : List (List Float) → List ℕ → ℕ → Vec3
 node_of nodes tet k = node_at nodes (get_or tet k 0)
 
-abbrev pub ten_of : List (List Float) → List ℕ → Ten
+-- all ten
+abbrev pub ten_of : List (List Float) → List ℕ → List Vec3
 ten_of nodes tet =
     let p = node_of nodes tet in
-    record { p0 = p 0; p1 = p 1; p2 = p 2; p3 = p 3; p4 = p 4; p5 = p 5; p6 = p 6; p7 = p 7; p8 = p 8; p9 = p 9 }
+    p 0 ∷ p 1 ∷ p 2 ∷ p 3 ∷ p 4 ∷ p 5 ∷ p 6 ∷ p 7 ∷ p 8 ∷ p 9 ∷ []
 
 -- 0.585410196624969, 0.138196601125011, and whole numbers
 abbrev pub A : Float
@@ -58,18 +58,19 @@ abbrev pub triple : Vec3 → Vec3 → Vec3 → Vec3 → Float
 triple d0 d1 d2 d3 = dot (less d1 d0) (cross (less d2 d0) (less d3 d0))
 
 -- `volume`: the share of one point of the rule, at which the corners 0 to 3 weigh w0 to w3
-unfoldable pub share_at : Ten → Float → Float → Float → Float → Float
+unfoldable pub share_at : List Vec3 → Float → Float → Float → Float → Float
 share_at t w0 w1 w2 w3 =
+    let p : ℕ → Vec3 = λ k. get_or t k origin in
     div binary64
     (triple
-    (moves t.p0 w0 t.p4 w1 t.p6 w2 t.p7 w3)
-    (moves t.p1 w1 t.p4 w0 t.p5 w2 t.p9 w3)
-    (moves t.p2 w2 t.p5 w1 t.p6 w0 t.p8 w3)
-    (moves t.p3 w3 t.p7 w0 t.p8 w2 t.p9 w1))
+    (moves (p 0) w0 (p 4) w1 (p 6) w2 (p 7) w3)
+    (moves (p 1) w1 (p 4) w0 (p 5) w2 (p 9) w3)
+    (moves (p 2) w2 (p 5) w1 (p 6) w0 (p 8) w3)
+    (moves (p 3) w3 (p 7) w0 (p 8) w2 (p 9) w1))
     twenty_four64
 
 -- `volume`: the four-point rule, whose shares are added in order
-unfoldable pub rule_of : Ten → Float
+unfoldable pub rule_of : List Vec3 → Float
 rule_of t =
     add binary64
     (add binary64 (add binary64 (share_at t A B B B) (share_at t B A B B)) (share_at t B B A B))

@@ -1,20 +1,21 @@
 -- What the steps of `volume` promise to each other; no caller need read them. Definitions only.
-use Rattle.std.specs.Prelude.{Float}
+use Rattle.std.specs.Prelude.{ℕ, List, [], ◌∷◌, Float}
 use Rattle.std.specs.Float.{binary64}
-use Rattle.std.specs.Float.Ieee.{sub, mul, div}
-use Rattle.ieee.specs.Basic.{one64}
+use Rattle.std.specs.Float.Ieee.{div}
 use Rattle.geom.specs.Vectors.{plus, scaled}
 use Rattle.geom.specs.declared.Vec3.{Vec3}
 use Rattle.mesh.specs.declared.Twice.{Twice}
-use Rattle.mesh.specs.Mesh.{A, B, four64, twenty_four64, triple}
+use Rattle.mesh.specs.Mesh.{twenty_four64, triple, node_of}
 
--- a corner by 4·A − 1 and 4·B − 1
-abbrev pub corner_twice : Vec3 → Twice
-corner_twice p = record { a = scaled p (sub binary64 (mul binary64 four64 A) one64); b = scaled p (sub binary64 (mul binary64 four64 B) one64) }
+-- a node by two numbers
+abbrev pub twice_of : Vec3 → Float → Float → Twice
+twice_of p u v = record { a = scaled p u; b = scaled p v }
 
--- the middle of a side by 4·A and 4·B
-abbrev pub middle_twice : Vec3 → Twice
-middle_twice p = record { a = scaled p (mul binary64 four64 A); b = scaled p (mul binary64 four64 B) }
+-- the first four nodes of a tetrahedron
+abbrev pub corners_of : List (List Float) → List ℕ → List Vec3
+corners_of nodes tet =
+    let p = node_of nodes tet in
+    p 0 ∷ p 1 ∷ p 2 ∷ p 3 ∷ []
 
 abbrev pub added : Vec3 → Vec3 → Vec3 → Vec3 → Vec3
 added c m1 m2 m3 = plus (plus (plus c m1) m2) m3

@@ -14,40 +14,32 @@ fn origin() -> Vec3
 }
 
 // Node n; one that is not there is the origin.
-fn node(nodes: &[[f64; 3]], n: u32) -> Vec3
+#[tactic(auto, using(lists::proofs::Laws::get_or_any, crate::proofs::Nodes::past), unfolding(crate::specs::Mesh::node_at))]
+pub fn node(nodes: &[[f64; 3]], n: u32) -> Vec3
     ensures { result ≡ Mesh.node_at nodes.now n }
 {
-    let i = n as usize;
-    if i < nodes.len() {
-        return lent::point(nodes[i]);
+    match nodes.get(n as usize) {
+        Some(p) => Vec3::from(*p),
+        None => origin(),
     }
-    origin()
 }
 
 // A node times the two numbers that the rule scales it by: made once, since each product is needed at several points.
 #[derive(Clone, Copy)]
 struct Twice {
+    // where the corner that weighs most is this one, or the other end of this side
     a: Vec3,
     b: Vec3,
 }
 
-// A corner, at the point of the rule where it weighs most and at the others.
-fn corner(p: Vec3) -> Twice
-    ensures { result ≡ Steps.corner_twice p }
-{
-    Twice {
-        a: p.scale(4.0 * 0.585410196624969 - 1.0),
-        b: p.scale(4.0 * 0.138196601125011 - 1.0),
-    }
-}
-
-// The middle of a side, where the corner at the other end weighs most and elsewhere.
-fn middle(p: Vec3) -> Twice
-    ensures { result ≡ Steps.middle_twice p }
-{
-    Twice {
-        a: p.scale(4.0 * 0.585410196624969),
-        b: p.scale(4.0 * 0.138196601125011),
+impl Twice {
+    fn new(p: Vec3, a: f64, b: f64) -> Self
+        ensures { result ≡ Steps.twice_of p a b }
+    {
+        Twice {
+            a: p.scale(a),
+            b: p.scale(b),
+        }
     }
 }
 
@@ -65,36 +57,21 @@ pub fn triple(d0: Vec3, d1: Vec3, d2: Vec3, d3: Vec3) -> f64
     d1.sub(d0).dot(d2.sub(d0).cross(d3.sub(d0)))
 }
 
-// The ten nodes of a tetrahedron.
-#[derive(Clone, Copy)]
-struct Ten {
-    p0: Vec3,
-    p1: Vec3,
-    p2: Vec3,
-    p3: Vec3,
-    p4: Vec3,
-    p5: Vec3,
-    p6: Vec3,
-    p7: Vec3,
-    p8: Vec3,
-    p9: Vec3,
-}
-
-fn nodes_of(nodes: &[[f64; 3]], t: [u32; 10]) -> Ten
+fn nodes_of(nodes: &[[f64; 3]], t: [u32; 10]) -> [Vec3; 10]
     ensures { result ≡ Mesh.ten_of nodes.now t }
 {
-    Ten {
-        p0: node(nodes, t[0]),
-        p1: node(nodes, t[1]),
-        p2: node(nodes, t[2]),
-        p3: node(nodes, t[3]),
-        p4: node(nodes, t[4]),
-        p5: node(nodes, t[5]),
-        p6: node(nodes, t[6]),
-        p7: node(nodes, t[7]),
-        p8: node(nodes, t[8]),
-        p9: node(nodes, t[9]),
-    }
+    [
+        node(nodes, t[0]),
+        node(nodes, t[1]),
+        node(nodes, t[2]),
+        node(nodes, t[3]),
+        node(nodes, t[4]),
+        node(nodes, t[5]),
+        node(nodes, t[6]),
+        node(nodes, t[7]),
+        node(nodes, t[8]),
+        node(nodes, t[9]),
+    ]
 }
 
 // The share of one point of the rule, from how it moves with each corner's weight.
@@ -105,19 +82,22 @@ fn share(d0: Vec3, d1: Vec3, d2: Vec3, d3: Vec3) -> f64
 }
 
 // The four points' shares, added in order.
-fn rule(t: Ten) -> f64
+#[tactic(auto, unfolding(crate::specs::Mesh::rule_of, crate::specs::Mesh::share_at, crate::specs::Mesh::moves))]
+fn rule(t: [Vec3; 10]) -> f64
     ensures { result ≡ Mesh.rule_of t }
 {
-    let c0 = corner(t.p0);
-    let c1 = corner(t.p1);
-    let c2 = corner(t.p2);
-    let c3 = corner(t.p3);
-    let m4 = middle(t.p4);
-    let m5 = middle(t.p5);
-    let m6 = middle(t.p6);
-    let m7 = middle(t.p7);
-    let m8 = middle(t.p8);
-    let m9 = middle(t.p9);
+    let most = 4.0 * 0.585410196624969;
+    let rest = 4.0 * 0.138196601125011;
+    let c0 = Twice::new(t[0], most - 1.0, rest - 1.0);
+    let c1 = Twice::new(t[1], most - 1.0, rest - 1.0);
+    let c2 = Twice::new(t[2], most - 1.0, rest - 1.0);
+    let c3 = Twice::new(t[3], most - 1.0, rest - 1.0);
+    let m4 = Twice::new(t[4], most, rest);
+    let m5 = Twice::new(t[5], most, rest);
+    let m6 = Twice::new(t[6], most, rest);
+    let m7 = Twice::new(t[7], most, rest);
+    let m8 = Twice::new(t[8], most, rest);
+    let m9 = Twice::new(t[9], most, rest);
     let s0 = share(
         moves(c0.a, m4.b, m6.b, m7.b),
         moves(c1.b, m4.a, m5.b, m9.b),
@@ -146,49 +126,57 @@ fn rule(t: Ten) -> f64
 }
 
 // The volume of a tetrahedron, curved as its mid-side nodes make it: the four-point rule on the second-order element.
+#[tactic(auto, unfolding(crate::specs::Mesh::volume_of))]
 pub fn volume(nodes: &[[f64; 3]], tet: [u32; 10]) -> f64
     ensures { result ≡ Mesh.volume_of nodes.now tet }
 {
     ieee::abs(rule(nodes_of(nodes, tet)))
 }
 
+// The corners of a tetrahedron.
+fn corners(nodes: &[[f64; 3]], tet: [u32; 10]) -> [Vec3; 4]
+    ensures { result ≡ Steps.corners_of nodes.now tet }
+{
+    [
+        node(nodes, tet[0]),
+        node(nodes, tet[1]),
+        node(nodes, tet[2]),
+        node(nodes, tet[3]),
+    ]
+}
+
 // The volume of the straight tetrahedron between the corners.
+#[tactic(auto, unfolding(crate::specs::Mesh::corner_volume_of))]
 pub fn corner_volume(nodes: &[[f64; 3]], tet: [u32; 10]) -> f64
     ensures { result ≡ Mesh.corner_volume_of nodes.now tet }
 {
-    let a = node(nodes, tet[0]);
-    let b = node(nodes, tet[1]);
-    let c = node(nodes, tet[2]);
-    let d = node(nodes, tet[3]);
+    let [a, b, c, d] = corners(nodes, tet);
     ieee::abs(triple(a, b, c, d) / 6.0)
 }
 
 // The middle of a tetrahedron: the mean of its corners.
+#[tactic(auto, unfolding(crate::specs::Mesh::centroid_of, lists::specs::Lists::fold_to))]
 pub fn centroid(nodes: &[[f64; 3]], tet: [u32; 10]) -> Vec3
     ensures { result ≡ Mesh.centroid_of nodes.now tet }
 {
-    let a = node(nodes, tet[0]);
-    let b = node(nodes, tet[1]);
-    let c = node(nodes, tet[2]);
-    let d = node(nodes, tet[3]);
+    let [a, b, c, d] = corners(nodes, tet);
     origin().add(a).add(b).add(c).add(d).scale(0.25)
 }
 
 // The size of the box that the nodes fit in, corner to corner.
+#[tactic(auto, unfolding(crate::specs::Mesh::extent_of, crate::specs::Mesh::lowest, crate::specs::Mesh::highest, lists::specs::Lists::choose, lists::specs::Lists::fold_to))]
 pub fn extent(nodes: &[[f64; 3]]) -> f64
     ensures { result ≡ Mesh.extent_of nodes.now }
 {
-    if nodes.len() == 0 {
+    if nodes.is_empty() {
         return 0.0;
     }
-    let mut lo = lent::point(nodes[0]);
+    let mut lo = Vec3::from(nodes[0]);
     let mut hi = lo;
-    let mut i = 0;
-    while i < nodes.len() {
-        let p = lent::point(nodes[i]);
+    for node in nodes {
+        let p = Vec3::from(*node);
         lo = lo.min(p);
         hi = hi.max(p);
-        i += 1;
     }
     hi.sub(lo).len()
 }

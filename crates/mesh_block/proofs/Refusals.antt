@@ -1,21 +1,27 @@
 -- What the chain of refusals says where none is given. Assumes nothing.
-use mathlib.Core.Path.{◌≡◌}
-use mathlib.Core.Bool.{Bool, false, ◌||◌}
+use mathlib.Core.Path.{◌≡◌, refl, sym, ap, ◌∙◌, subst}
+use mathlib.Core.Bool.{◌||◌}
 use Prim.Native.Nat.{ℕ, ◌≤◌}
 use native.Mathlib.Omega.{arith}
 use borrow.Author.Tests.{ltb-false}
 use lib.Dec.{ltb}
 use lib.ListN.{length}
+use Rattle.lists.proofs.Bools.{never}
 use Rattle.lists.proofs.Laws.{passes_on, neither}
-use Rattle.lent.specs.Points.{stored}
+use Rattle.geom.specs.Points.{stored}
 use Rattle.lent.specs.Domain.{point_bad}
 use Rattle.mesh_lattice.specs.declared.Grid.{Grid}
 use Rattle.mesh_lattice.specs.Lattice.{tets_in, nodes_in, slots_in}
 use Rattle.mesh_triangles.specs.Triangles.{triangles_in}
-use Rattle.mesh_block.specs.Block.{too_many, refusal_of}
-
-pub or-second : (a b : Bool) → a ≡ false → (a || b) ≡ b
-or-second a b e = rw e
+use Rattle.std.proofs.Common.{Result, Ok, Err}
+use Rattle.std.specs.Result.{IsErr, IsErrAnd}
+use Rattle.lent.proofs.Lent.{unless-refused}
+use Rattle.refusal.proofs.Numbers.{some_number}
+use Rattle.refusal.specs.Refusals.{number_of}
+use Rattle.refusal.specs.declared.Refusal.{Refusal}
+use Rattle.mesh_block.specs.declared.Counts.{Counts}
+use Rattle.mesh_block.specs.declared.Made.{Made}
+use Rattle.mesh_block.specs.Block.{too_many, refusal_of, Held, made_of, Built}
 
 pub record Accepted (g : Grid) (n t s r w : ℕ) : Type 0 where
   pub few-tets : tets_in g ≤ 65535
@@ -46,3 +52,28 @@ accepted g n t s r w e =
       tets = ltb-false t (tets_in g) short2.0;
       edges = ltb-false w (slots_in g) short4.1;
     }
+
+-- a grid that nothing refuses, under the name that the code has for it
+pub accepted_by : (g grid : Grid) (n t s r w : ℕ) → g ≡ grid → 0 ≡ refusal_of grid n t s r w → Accepted g n t s r w
+accepted_by g grid n t s r w is e = subst (λ (g : Grid). Accepted g n t s r w) (sym is) (accepted grid n t s r w (sym e))
+
+-- the lists as they were lent, and no counts
+pub left_alone : (g : Grid) (l : Held) (x : Result Counts Refusal) (r : Refusal) → IsErr x × IsErrAnd x (λ y. y ≡ r)
+    → number_of r ≡ refusal_of g (length l.nodes) (length l.tets) (length l.surfaces) (length l.tris) (length l.edges) → Built g l l (made_of x)
+left_alone g l (Ok a) r h e = never h.0 refl
+left_alone g l (Err y) r h e =
+    let no : number_of y ≡ 0 → ⊥ = λ z. omega (arith, z, some_number y) in
+    record {
+      refusal = ap number_of h.1 ∙ e;
+      node-count = unless-refused _ _ _ no;
+      tet-count = unless-refused _ _ _ no;
+      tri-count = unless-refused _ _ _ no;
+      nodes-are = unless-refused _ _ _ no;
+      tets-are = unless-refused _ _ _ no;
+      surfaces-are = unless-refused _ _ _ no;
+      tris-are = unless-refused _ _ _ no;
+      edges_are = unless-refused _ _ _ no;
+    }
+
+pub same_grid : (g h : Grid) (l l' : Held) (r : Made) → g ≡ h → Built g l l' r → Built h l l' r
+same_grid g h l l' r e b = subst (λ (g : Grid). Built g l l' r) e b

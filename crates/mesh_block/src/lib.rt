@@ -1,15 +1,35 @@
 // mesh.rs's `block`: a box divided into cells, each into six tetrahedra, for checks that need a mesh without a mesher.
 #![tactic(auto)]
 
-ghost use Rattle.std.specs.Prelude.{◌≡◌, ltb};
-ghost use Rattle.mesh_lattice.specs.Lattice as Lattice;
+ghost use Rattle.std.specs.Prelude.{◌≡◌, IfOk};
+ghost use Rattle.refusal.specs.Refusals.{refused};
 ghost use Rattle.mesh_lattice.specs.Bounds as Bounds;
 ghost use Rattle.mesh_block.specs.Block as Block;
 
 use geom::Vec3;
-use mesh_lattice::Grid;
+use mesh_lattice::{Grid, SmallGrid};
+use refusal::Refusal;
 
-// The counts of a mesh; or the refusal, with no counts.
+// The counts of a mesh.
+#[derive(Clone, Copy)]
+pub struct Counts {
+    pub nodes: u32,
+    pub tets: u32,
+    pub tris: u32,
+}
+
+// What `block` fills, and `edges` to work in.
+#[derive(Drop)]
+pub struct Lists<'a> {
+    pub nodes: &'a mut [[f64; 3]],
+    pub tets: &'a mut [[u32; 10]],
+    pub surfaces: &'a mut [u32],
+    pub tris: &'a mut [[u32; 6]],
+    pub edges: &'a mut [u32],
+}
+
+// What `block` returns, as it goes across C: the counts of a mesh; or the refusal, with no counts.
+// Stays a number beside counts: this is the C interface's struct.
 #[repr(C)]
 #[derive(Clone, Copy)]
 pub struct Made {
@@ -19,105 +39,92 @@ pub struct Made {
     pub tris: u32,
 }
 
-// Whether there are more tetrahedra than the domain has: tested before anything is multiplied.
-fn crowded(g: Grid) -> bool
-    requires { Bounds.Positive g }
-    ensures { result ≡ ltb 65535 (Lattice.tets_in g) }
-{
-    if g.nx > 10922 {
-        return true;
+impl From<Result<Counts, Refusal>> for Made {
+    fn from(outcome: Result<Counts, Refusal>) -> Made
+        ensures { result ≡ Block.made_of outcome }
+    {
+        match outcome {
+            Ok(c) => Made {
+                refused: 0,
+                nodes: c.nodes,
+                tets: c.tets,
+                tris: c.tris,
+            },
+            Err(r) => Made {
+                refused: u32::from(r),
+                nodes: 0,
+                tets: 0,
+                tris: 0,
+            },
+        }
     }
-    if g.ny > 10922 {
-        return true;
-    }
-    if g.nz > 10922 {
-        return true;
-    }
-    6 * (g.nx * (g.ny * g.nz)) > 65535
 }
 
-// The refusal, or 0.
-fn refusal(g: Grid, nodes: usize, tets: usize, surfaces: usize, tris: usize, edges: usize) -> u32
-    requires { Bounds.Positive g }
-    ensures { result ≡ Block.refusal_of g nodes tets surfaces tris edges }
+// The grid, where nothing refuses it.
+#[tactic(auto, unfolding(crate::specs::Block::refusal_of, lists::specs::Lists::choose))]
+fn check(
+    grid: Grid,
+    nodes: usize,
+    tets: usize,
+    surfaces: usize,
+    tris: usize,
+    edges: usize,
+) -> Result<SmallGrid, Refusal>
+    requires { Bounds.Positive grid }
+    ensures refusal { refused result ≡ Block.refusal_of grid nodes tets surfaces tris edges }
+    ensures grid { IfOk result (λ g. g.grid ≡ grid) }
 {
-    if crowded(g) {
-        return 3;
-    }
-    let n = mesh_lattice::node_count(g);
+    let Some(g) = SmallGrid::new(grid) else {
+        return Err(Refusal::TooMany);
+    };
+    let n = g.node_count();
     let t = mesh_triangles::count(g);
     if (1048576 < n) | (65535 < t) {
-        return 3;
+        return Err(Refusal::TooMany);
     }
-    let size = g.size;
-    if lent::point_bad([size.x, size.y, size.z]) {
-        return 9;
+    if lent::point_bad(grid.size.into()) {
+        return Err(Refusal::PointOutside);
     }
     if (nodes < n)
-        | ((tets < mesh_lattice::tet_count(g))
-            | ((surfaces < t) | ((tris < t) | (edges < 8 * mesh_lattice::corner_count(g)))))
+        | ((tets < g.tet_count()) | ((surfaces < t) | ((tris < t) | (edges < g.slot_count()))))
     {
-        return 14;
+        return Err(Refusal::ListTooShort);
     }
-    0
+    Ok(g)
 }
 
-// Fills the lists with the mesh of a grid, or gives the refusal.
-fn fill(
-    g: Grid,
-    nodes: &mut [[f64; 3]],
-    tets: &mut [[u32; 10]],
-    surfaces: &mut [u32],
-    tris: &mut [[u32; 6]],
-    edges: &mut [u32],
-) -> Made
-    requires { Bounds.Positive g }
-    ensures { Block.Built g nodes.old nodes.new tets.old tets.new surfaces.old surfaces.new tris.old tris.new edges.old edges.new result }
+// A box `size` long on each side, from the origin, in `cells` cells along each axis: fills the lists, and gives the counts. The triangles'
+// surfaces are 1 to 6: x = 0, x = size.x, y = 0, y = size.y, z = 0, z = size.z.
+#[tactic(auto, unfolding(crate::specs::Block::grid_of))]
+pub fn block(cells: [usize; 3], size: Vec3, lists: Lists) -> Result<Counts, Refusal>
+    ensures { Block.Built (Block.grid_of cells size) (Block.lent lists.entry) (Block.left lists.exit.0.now lists.exit.1.0.now lists.exit.1.1.0.now lists.exit.1.1.1.0.now lists.exit.1.1.1.1.0.now) (Block.made_of result) }
 {
-    let r = refusal(
-        g,
+    let Lists {
+        nodes,
+        tets,
+        surfaces,
+        tris,
+        edges,
+    } = lists;
+    let grid = Grid {
+        nx: cells[0].max(1),
+        ny: cells[1].max(1),
+        nz: cells[2].max(1),
+        size,
+    };
+    let g = check(
+        grid,
         nodes.len(),
         tets.len(),
         surfaces.len(),
         tris.len(),
         edges.len(),
-    );
-    if r > 0 {
-        return Made {
-            refused: r,
-            nodes: 0,
-            tets: 0,
-            tris: 0,
-        };
-    }
-    let n = mesh_lattice::build(g, nodes, tets, edges);
+    )?;
+    let n = g.build(nodes, tets, edges);
     let t = mesh_triangles::triangles(g, tets, surfaces, tris);
-    Made {
-        refused: 0,
+    Ok(Counts {
         nodes: n as u32,
-        tets: mesh_lattice::tet_count(g) as u32,
+        tets: g.tet_count() as u32,
         tris: t as u32,
-    }
-}
-
-// A box `size` long on each side, from the origin, in `cells` cells along each axis: fills the lists, with `edges` to work in, and gives the
-// counts or the refusal. The triangles' surfaces are 1 to 6: x = 0, x = size.x, y = 0, y = size.y, z = 0, z = size.z.
-pub fn block(
-    cells: [usize; 3],
-    size: Vec3,
-    nodes: &mut [[f64; 3]],
-    tets: &mut [[u32; 10]],
-    surfaces: &mut [u32],
-    tris: &mut [[u32; 6]],
-    edges: &mut [u32],
-) -> Made
-    ensures { Block.Built (Block.grid_of cells size) nodes.old nodes.new tets.old tets.new surfaces.old surfaces.new tris.old tris.new edges.old edges.new result }
-{
-    let g = Grid {
-        nx: mesh_lattice::greater(cells[0], 1),
-        ny: mesh_lattice::greater(cells[1], 1),
-        nz: mesh_lattice::greater(cells[2], 1),
-        size,
-    };
-    fill(g, nodes, tets, surfaces, tris, edges)
+    })
 }

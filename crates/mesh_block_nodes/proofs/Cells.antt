@@ -5,15 +5,14 @@ use mathlib.Core.Bool.{Bool, true, false}
 use mathlib.Core.Logic.{◌⊎◌, inl, inr}
 use Prim.Native.Nat.{ℕ, zero, suc, ◌+◌, ◌*◌, ◌/◌, ◌%◌, ◌≤◌, ◌<◌}
 use native.Mathlib.Omega.{arith}
-use Rattle.lists.specs.Lists.{choose}
+use mathlib.Core.List.{List}
 use Rattle.mesh_lattice.specs.declared.Grid.{Grid}
 use Rattle.mesh_lattice.specs.declared.Corner.{Corner}
-use Rattle.mesh_lattice.specs.declared.Four.{Four}
-use Rattle.mesh_lattice.specs.Lattice.{number_of, stepped, way_of, met_before, edges_in}
+use Rattle.mesh_lattice.specs.Lattice.{number_of, nth, way_of, met_before, edges_in}
 use Rattle.mesh_lattice.specs.Bounds.{Positive, Inside}
-use Rattle.mesh_lattice.proofs.Ways.{First, way_from}
+use Rattle.mesh_lattice.proofs.Ways.{First, turns, way_from}
 use Rattle.mesh_block_nodes.proofs.Digits.{tet_at, tet-lt, tet_way, tet-first}
-use Rattle.mesh_block_nodes.proofs.Sides.{sides_by, turns, sides-are}
+use Rattle.mesh_block_nodes.proofs.Sides.{sides_by, sides-are}
 use Rattle.mesh_block_nodes.proofs.Edges.{Member, here, there, side-met}
 
 -- ---- along one axis
@@ -44,13 +43,13 @@ cell_of_lem n q p h = go (q / 2) (q % 2) refl (omega arith) (omega arith) (omega
 -- ---- in a cell
 
 -- two corners of a tetrahedron's, the one before the other
-data Pair (w : Four) : Corner → Corner → Type 0 where
-  ab : Pair w w.a w.b
-  bc : Pair w w.b w.c
-  ac : Pair w w.a w.c
-  ad : Pair w w.a w.d
-  cd : Pair w w.c w.d
-  bd : Pair w w.b w.d
+data Pair (w : List Corner) : Corner → Corner → Type 0 where
+  ab : Pair w (nth w 0) (nth w 1)
+  bc : Pair w (nth w 1) (nth w 2)
+  ac : Pair w (nth w 0) (nth w 2)
+  ad : Pair w (nth w 0) (nth w 3)
+  cd : Pair w (nth w 2) (nth w 3)
+  bd : Pair w (nth w 1) (nth w 3)
 
 data Among (p : Corner) : Corner → Corner → Type 0 where
   same : {c : Corner} → Among p c c
@@ -60,7 +59,6 @@ abbrev corner : ℕ → ℕ → ℕ → Corner
 corner i j k = record { i = i; j = j; k = k }
 
 among : (i j k : ℕ) {a b c a' b' c' : ℕ} → Across i a a' → Across j b b' → Across k c c' → Among (corner i j k) (corner a b c) (corner a' b' c')
-unfolding stepped choose
 among i j k near near near = same
 among i j k near near across = on 4 (omega arith) ab
 among i j k near near far = same
@@ -91,7 +89,7 @@ among i j k far far far = same
 
 -- ---- the side of that tetrahedron
 
-pair-by : (g : Grid) (w : Four) (c d : Corner) (t : Bool) → Pair w c d → Member (number_of g c, number_of g d) (sides_by t (number_of g w.a) (number_of g w.b) (number_of g w.c) (number_of g w.d))
+pair-by : (g : Grid) (w : List Corner) (c d : Corner) (t : Bool) → Pair w c d → Member (number_of g c, number_of g d) (sides_by t (number_of g (nth w 0)) (number_of g (nth w 1)) (number_of g (nth w 2)) (number_of g (nth w 3)))
 unfolding sides_by
 pair-by g w c d true ac = here
 pair-by g w c d true bc = there here
@@ -117,7 +115,7 @@ module _ (g : Grid) (p : Corner) (h : First g p) where
       let e = tet_at g p w in
       inr
       (side-met g e (number_of g c, number_of g d) (tet-lt g p h w l)
-      (subst (Member (number_of g c, number_of g d)) (sym (sides-are g e)) (pair-by g (way_of g e) c d (turns g e) (subst (λ (f : Four). Pair f c d) (way-is w l) m))))
+      (subst (Member (number_of g c, number_of g d)) (sym (sides-are g e)) (pair-by g (way_of g e) c d (turns g (way_of g e)) (subst (λ (f : List Corner). Pair f c d) (way-is w l) m))))
 
 -- ---- a point of the grid of half the cell size
 

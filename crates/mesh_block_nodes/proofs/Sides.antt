@@ -2,20 +2,18 @@
 use mathlib.Core.Path.{◌≡◌, refl, sym, ◌∙◌, subst}
 use mathlib.Core.Bool.{Bool, true, false}
 use mathlib.Core.List.{List, [], ◌∷◌}
-use Prim.Native.Nat.{ℕ, ◌+◌, ◌*◌, ◌/◌, ◌%◌, ◌≤◌, ◌<◌}
+use Prim.Native.Nat.{ℕ, ◌+◌, ◌*◌, ◌%◌, ◌≤◌, ◌<◌}
 use native.Mathlib.Omega.{arith}
 use native.Mathlib.Nat.{mul-suc, mul-le-mul_left, mod-lt, min_comm, max_comm, min-eq_left, max-eq_right, lt_trans}
-use lib.Dec.{eqb}
 use lib.ListN.{get_or}
-use lib.Ieee.{lt}
-use Rattle.lists.specs.Lists.{choose, zero64}
-use Rattle.mesh.specs.Mesh.{triple}
+use Rattle.lists.specs.Lists.{choose}
 use Rattle.mesh_lattice.specs.declared.Grid.{Grid}
 use Rattle.mesh_lattice.specs.declared.Corner.{Corner}
-use Rattle.mesh_lattice.specs.declared.Four.{Four}
-use Rattle.mesh_lattice.specs.Lattice.{number_of, place_of, tets_in, paths, stepped, first_of, way_of, four_of, Edge, edge, sides_of}
+use Rattle.mesh_lattice.specs.declared.Axis.{Axis}
+use Rattle.mesh_lattice.specs.declared.Axis.TheVariants.{X, Y, Z}
+use Rattle.mesh_lattice.specs.Lattice.{number_of, tets_in, paths, stepped, nth, first_of, way_of, four_of, Edge, edge, sides_between, sides_of}
 use Rattle.mesh_lattice.specs.Bounds.{Positive, Inside}
-use Rattle.mesh_lattice.proofs.Ways.{First, quotient, six}
+use Rattle.mesh_lattice.proofs.Ways.{First, first_in, numbers_by, six, turned, turns}
 
 -- ---- a step up
 
@@ -32,39 +30,39 @@ up-on g a b c p q = record { x = omega (arith, p.x, q.x); y = omega (arith, p.y,
 grows : (x u v : ℕ) → 0 < x → u < v → x * u < x * v
 grows x u v h k = omega (arith, mul-suc x u, mul-le-mul_left x k)
 
-step-up : (g : Grid) (m : ℕ) (c : Corner) → Up g c (stepped m c)
-unfolding stepped choose number_of
-step-up g m c = go (eqb m 0) (eqb m 1)
-  where
-    go : (s t : Bool) → Up g c (choose s (record { i = c.i + 1; j = c.j; k = c.k }) (choose t (record { i = c.i; j = c.j + 1; k = c.k }) (record { i = c.i; j = c.j; k = c.k + 1 })))
-    go true t = record { x = omega arith; y = omega arith; z = omega arith; more = omega arith }
-    go false true =
-        record {
-          x = omega arith;
-          y = omega arith;
-          z = omega arith;
-          more = omega (arith, grows (g.nx + 1) (c.j + (g.ny + 1) * c.k) (c.j + 1 + (g.ny + 1) * c.k) (omega arith) (omega arith));
-        }
-    go false false =
-        record {
-          x = omega arith;
-          y = omega arith;
-          z = omega arith;
-          more = omega (arith, grows (g.nx + 1) (c.j + (g.ny + 1) * c.k) (c.j + (g.ny + 1) * (c.k + 1)) (omega arith) (omega (arith, grows (g.ny + 1) c.k (c.k + 1) (omega arith) (omega arith))));
-        }
+step-up : (g : Grid) (m : Axis) (c : Corner) → Up g c (stepped m c)
+unfolding number_of
+step-up g X c = record { x = omega arith; y = omega arith; z = omega arith; more = omega arith }
+step-up g Y c =
+    record {
+      x = omega arith;
+      y = omega arith;
+      z = omega arith;
+      more = omega (arith, grows (g.nx + 1) (c.j + (g.ny + 1) * c.k) (c.j + 1 + (g.ny + 1) * c.k) (omega arith) (omega arith));
+    }
+step-up g Z c =
+    record {
+      x = omega arith;
+      y = omega arith;
+      z = omega arith;
+      more = omega (arith, grows (g.nx + 1) (c.j + (g.ny + 1) * c.k) (c.j + (g.ny + 1) * (c.k + 1)) (omega arith) (omega (arith, grows (g.ny + 1) c.k (c.k + 1) (omega arith) (omega arith))));
+    }
 
 -- ---- the corners of a tetrahedron
 
 -- each is above the one before it, and the last is one step along each axis from the first
-pub record Climbs (g : Grid) (w : Four) : Type 0 where
-  pub ab : Up g w.a w.b
-  pub bc : Up g w.b w.c
-  pub cd : Up g w.c w.d
-  pub far : w.d ≡ record { i = w.a.i + 1; j = w.a.j + 1; k = w.a.k + 1 }
+pub record Climbs (g : Grid) (w : List Corner) : Type 0 where
+  pub ab : Up g (nth w 0) (nth w 1)
+  pub bc : Up g (nth w 1) (nth w 2)
+  pub cd : Up g (nth w 2) (nth w 3)
+  pub far : (nth w 3) ≡ record { i = (nth w 0).i + 1; j = (nth w 0).j + 1; k = (nth w 0).k + 1 }
 
-far_from : (p : Corner) (w : ℕ) → w < 6 → stepped (get_or paths (3 * w + 2) 0) (stepped (get_or paths (3 * w + 1) 0) (stepped (get_or paths (3 * w + 0) 0) p)) ≡ record { i = p.i + 1; j = p.j + 1; k = p.k + 1 }
-unfolding stepped choose
-far_from p = six (λ w. stepped (get_or paths (3 * w + 2) 0) (stepped (get_or paths (3 * w + 1) 0) (stepped (get_or paths (3 * w + 0) 0) p)) ≡ record { i = p.i + 1; j = p.j + 1; k = p.k + 1 }) refl refl refl refl refl refl
+-- the axis of step m of way w
+abbrev axis : ℕ → ℕ → Axis
+axis w m = get_or (get_or paths w []) m X
+
+far_from : (p : Corner) (w : ℕ) → w < 6 → stepped (axis w 2) (stepped (axis w 1) (stepped (axis w 0) p)) ≡ record { i = p.i + 1; j = p.j + 1; k = p.k + 1 }
+far_from p = six (λ w. stepped (axis w 2) (stepped (axis w 1) (stepped (axis w 0) p)) ≡ record { i = p.i + 1; j = p.j + 1; k = p.k + 1 }) refl refl refl refl refl refl
 
 pub climbs : (g : Grid) (e : ℕ) → Climbs g (way_of g e)
 unfolding way_of
@@ -83,32 +81,26 @@ unfoldable pub sides_by : Bool → ℕ → ℕ → ℕ → ℕ → List Edge
 sides_by true a b c d = (a, c) ∷ (b, c) ∷ (a, b) ∷ (a, d) ∷ (b, d) ∷ (c, d) ∷ []
 sides_by false a b c d = (a, b) ∷ (b, c) ∷ (a, c) ∷ (a, d) ∷ (c, d) ∷ (b, d) ∷ []
 
-abbrev pub turns : Grid → ℕ → Bool
-turns g e = lt (triple (place_of g (way_of g e).a) (place_of g (way_of g e).b) (place_of g (way_of g e).c) (place_of g (way_of g e).d)) zero64
-
-abbrev sides_from : ℕ → ℕ → ℕ → ℕ → List Edge
-sides_from a b c d = edge a b ∷ edge b c ∷ edge c a ∷ edge a d ∷ edge c d ∷ edge b d ∷ []
-
 -- over plain numbers
-sides-turned : (a b c d : ℕ) → a < b → b < c → c < d → sides_from a c b d ≡ sides_by true a b c d
+sides-turned : (a b c d : ℕ) → a < b → b < c → c < d → sides_between (a ∷ c ∷ b ∷ d ∷ []) ≡ sides_by true a b c d
 unfolding sides_by
 sides-turned a b c d ab bc cd =
     λ i. edge-up a c (lt_trans ab bc) i ∷ edge-down b c bc i ∷ edge-down a b ab i ∷ edge-up a d (lt_trans ab (lt_trans bc cd)) i ∷ edge-up b d (lt_trans bc cd) i ∷ edge-up c d cd i ∷ []
 
-sides-kept : (a b c d : ℕ) → a < b → b < c → c < d → sides_from a b c d ≡ sides_by false a b c d
+sides-kept : (a b c d : ℕ) → a < b → b < c → c < d → sides_between (a ∷ b ∷ c ∷ d ∷ []) ≡ sides_by false a b c d
 unfolding sides_by
 sides-kept a b c d ab bc cd =
     λ i. edge-up a b ab i ∷ edge-up b c bc i ∷ edge-down a c (lt_trans ab bc) i ∷ edge-up a d (lt_trans ab (lt_trans bc cd)) i ∷ edge-up c d cd i ∷ edge-up b d (lt_trans bc cd) i ∷ []
 
-pub sides-are : (g : Grid) (e : ℕ) → sides_of g e ≡ sides_by (turns g e) (number_of g (way_of g e).a) (number_of g (way_of g e).b) (number_of g (way_of g e).c) (number_of g (way_of g e).d)
+pub sides-are : (g : Grid) (e : ℕ) → sides_of g e ≡ sides_by (turns g (way_of g e)) (number_of g (nth (way_of g e) 0)) (number_of g (nth (way_of g e) 1)) (number_of g (nth (way_of g e) 2)) (number_of g (nth (way_of g e) 3))
 unfolding sides_of four_of choose
-sides-are g e = go (turns g e)
+sides-are g e = go (turns g (way_of g e))
   where
-    four : Bool → Four
-    four t = choose t (record { a = (way_of g e).a; b = (way_of g e).c; c = (way_of g e).b; d = (way_of g e).d }) (way_of g e)
+    four : Bool → List Corner
+    four t = turned t (way_of g e)
 
-    go : (t : Bool) → sides_from (number_of g (four t).a) (number_of g (four t).b) (number_of g (four t).c) (number_of g (four t).d)
-        ≡ sides_by t (number_of g (way_of g e).a) (number_of g (way_of g e).b) (number_of g (way_of g e).c) (number_of g (way_of g e).d)
+    go : (t : Bool) → sides_between (numbers_by g (four t))
+        ≡ sides_by t (number_of g (nth (way_of g e) 0)) (number_of g (nth (way_of g e) 1)) (number_of g (nth (way_of g e) 2)) (number_of g (nth (way_of g e) 3))
     go true = sides-turned _ _ _ _ (climbs g e).ab.more (climbs g e).bc.more (climbs g e).cd.more
     go false = sides-kept _ _ _ _ (climbs g e).ab.more (climbs g e).bc.more (climbs g e).cd.more
 
@@ -128,15 +120,6 @@ pub record Step (g : Grid) (x : Edge) : Type 0 where
 pub data AllSteps (g : Grid) : List Edge → Type 0 where
   none : AllSteps g []
   more : {x : Edge} {xs : List Edge} → Step g x → AllSteps g xs → AllSteps g (x ∷ xs)
-
-first_in : (g : Grid) (e : ℕ) → Positive g → e < tets_in g → First g (first_of g e)
-unfolding first_of
-first_in g e p h =
-    record {
-      x = mod-lt (e / 6) p.x;
-      y = mod-lt (e / 6 / g.nx) p.y;
-      z = quotient (e / 6 / g.nx) g.ny g.nz p.y (quotient (e / 6) g.nx (g.ny * g.nz) p.x (quotient e 6 (g.nx * (g.ny * g.nz)) (omega arith) h));
-    }
 
 -- no coordinate is less
 record Over (a b : Corner) : Type 0 where
@@ -159,32 +142,32 @@ step_in g p u v f o h n =
       is = refl;
     }
 
-module _ (g : Grid) (w : Four) (f : First g w.a) (u : Climbs g w) where
+module _ (g : Grid) (w : List Corner) (f : First g (nth w 0)) (u : Climbs g w) where
   abbrev far : Corner
-  far = record { i = w.a.i + 1; j = w.a.j + 1; k = w.a.k + 1 }
+  far = record { i = (nth w 0).i + 1; j = (nth w 0).j + 1; k = (nth w 0).k + 1 }
 
-  ac : Up g w.a w.c
+  ac : Up g (nth w 0) (nth w 2)
   ac = up-on g _ _ _ u.ab u.bc
 
-  bd : Up g w.b w.d
+  bd : Up g (nth w 1) (nth w 3)
   bd = up-on g _ _ _ u.bc u.cd
 
-  ad : Up g w.a w.d
+  ad : Up g (nth w 0) (nth w 3)
   ad = up-on g _ _ _ u.ab bd
 
-  low : (b : Corner) → Up g w.a b → Over w.a b
+  low : (b : Corner) → Up g (nth w 0) b → Over (nth w 0) b
   low b h = record { x = h.x; y = h.y; z = h.z }
 
-  first : Over w.a w.a
+  first : Over (nth w 0) (nth w 0)
   first = record { x = omega arith; y = omega arith; z = omega arith }
 
-  last : Over w.d far
-  last = subst (Over w.d) u.far (record { x = omega arith; y = omega arith; z = omega arith })
+  last : Over (nth w 3) far
+  last = subst (Over (nth w 3)) u.far (record { x = omega arith; y = omega arith; z = omega arith })
 
-  high : (b : Corner) → Up g b w.d → Over b far
+  high : (b : Corner) → Up g b (nth w 3) → Over b far
   high b h = subst (Over b) u.far (record { x = h.x; y = h.y; z = h.z })
 
-  steps-by : (t : Bool) → AllSteps g (sides_by t (number_of g w.a) (number_of g w.b) (number_of g w.c) (number_of g w.d))
+  steps-by : (t : Bool) → AllSteps g (sides_by t (number_of g (nth w 0)) (number_of g (nth w 1)) (number_of g (nth w 2)) (number_of g (nth w 3)))
   unfolding sides_by
   steps-by =
       let s-ab = step_in g _ _ _ f first u.ab (high _ bd) in
@@ -195,12 +178,12 @@ module _ (g : Grid) (w : Four) (f : First g w.a) (u : Climbs g w) where
       let s-cd = step_in g _ _ _ f (low _ ac) u.cd last in
       by s-ab s-bc s-ac s-ad s-bd s-cd
     where
-      by : Step g (number_of g w.a, number_of g w.b) → Step g (number_of g w.b, number_of g w.c) → Step g (number_of g w.a, number_of g w.c)
-          → Step g (number_of g w.a, number_of g w.d) → Step g (number_of g w.b, number_of g w.d) → Step g (number_of g w.c, number_of g w.d)
-          → (t : Bool) → AllSteps g (sides_by t (number_of g w.a) (number_of g w.b) (number_of g w.c) (number_of g w.d))
+      by : Step g (number_of g (nth w 0), number_of g (nth w 1)) → Step g (number_of g (nth w 1), number_of g (nth w 2)) → Step g (number_of g (nth w 0), number_of g (nth w 2))
+          → Step g (number_of g (nth w 0), number_of g (nth w 3)) → Step g (number_of g (nth w 1), number_of g (nth w 3)) → Step g (number_of g (nth w 2), number_of g (nth w 3))
+          → (t : Bool) → AllSteps g (sides_by t (number_of g (nth w 0)) (number_of g (nth w 1)) (number_of g (nth w 2)) (number_of g (nth w 3)))
       by ab bc ac ad bd cd true = more ac (more bc (more ab (more ad (more bd (more cd none)))))
       by ab bc ac ad bd cd false = more ab (more bc (more ac (more ad (more cd (more bd none)))))
 
 pub sides_steps : (g : Grid) (e : ℕ) → Positive g → e < tets_in g → AllSteps g (sides_of g e)
 unfolding way_of
-sides_steps g e p h = subst (AllSteps g) (sym (sides-are g e)) (steps-by g (way_of g e) (first_in g e p h) (climbs g e) (turns g e))
+sides_steps g e p h = subst (AllSteps g) (sym (sides-are g e)) (steps-by g (way_of g e) (first_in g e p h) (climbs g e) (turns g (way_of g e)))

@@ -12,7 +12,7 @@ use lib.Ieee.{Float}
 use Rattle.lists.specs.Lists.{choose, overwrite}
 use Rattle.lists.proofs.Laws.{choose-true, choose-false, overwrite-same, get_or-overwrite-below, overwrite-set}
 use Rattle.geom.specs.Vectors.{plus, scaled}
-use Rattle.lent.specs.Points.{stored, point}
+use Rattle.geom.specs.Points.{stored, point}
 use Rattle.mesh_lattice.specs.declared.Grid.{Grid}
 use Rattle.mesh_lattice.specs.Lattice.{Edge, half64, corners_in, slots_in, corner_place, middle_place, place_in, met_before, meet, meet_all, node_with}
 use Rattle.mesh_lattice.specs.Filing.{index_in, strides, slot_of, Filing, between, looked, looked_all}

@@ -5,5 +5,5 @@ pub mod Numbers
 pub mod Ways
 pub mod Edges
 pub mod Lists
-mod Filed
-mod Joins
+pub mod Filed
+pub mod Joins

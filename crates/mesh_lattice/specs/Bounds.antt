@@ -1,9 +1,8 @@
 -- Numbers that the code may count on. Definitions only.
-use Rattle.std.specs.Prelude.{◌≤◌, ◌<◌}
+use Rattle.std.specs.Prelude.{◌≤◌, ◌<◌, List}
 use Rattle.mesh_lattice.specs.declared.Grid.{Grid}
 use Rattle.mesh_lattice.specs.declared.Corner.{Corner}
-use Rattle.mesh_lattice.specs.declared.Four.{Four}
-use Rattle.mesh_lattice.specs.Lattice.{corners_in, tets_in}
+use Rattle.mesh_lattice.specs.Lattice.{corners_in, tets_in, nth}
 
 -- at least one cell along each axis
 pub record Positive (g : Grid) : Type 0 where
@@ -28,8 +27,8 @@ pub record Inside (g : Grid) (c : Corner) : Type 0 where
   pub y : c.j ≤ g.ny
   pub z : c.k ≤ g.nz
 
-pub record InsideAll (g : Grid) (f : Four) : Type 0 where
-  pub a : Inside g f.a
-  pub b : Inside g f.b
-  pub c : Inside g f.c
-  pub d : Inside g f.d
+pub record InsideAll (g : Grid) (f : List Corner) : Type 0 where
+  pub a : Inside g (nth f 0)
+  pub b : Inside g (nth f 1)
+  pub c : Inside g (nth f 2)
+  pub d : Inside g (nth f 3)

@@ -8,11 +8,13 @@ use Rattle.lists.specs.Lists.{fold_to, choose, zero64}
 use Rattle.ieee.specs.Basic.{whole64}
 use Rattle.geom.specs.Vectors.{vec, plus, scaled}
 use Rattle.geom.specs.declared.Vec3.{Vec3}
-use Rattle.lent.specs.Points.{stored}
+use Rattle.geom.specs.Points.{stored}
 use Rattle.mesh.specs.Mesh.{triple}
 use Rattle.mesh_lattice.specs.declared.Grid.{Grid}
 use Rattle.mesh_lattice.specs.declared.Corner.{Corner}
-use Rattle.mesh_lattice.specs.declared.Four.{Four}
+use Rattle.mesh_lattice.specs.declared.Vertex.{Vertex}
+use Rattle.mesh_lattice.specs.declared.Axis.{Axis}
+use Rattle.mesh_lattice.specs.declared.Axis.TheVariants.{X, Y, Z}
 
 -- ---- the corners of the cells
 
@@ -38,20 +40,19 @@ place_of g c = vec (coordinate g.size.x c.i g.nx) (coordinate g.size.y c.j g.ny)
 
 -- ---- the corners of the tetrahedra
 
--- a step along the axis x, y or z, which are 0, 1 and 2
-unfoldable pub stepped : ℕ → Corner → Corner
-stepped a c =
-    choose (eqb a 0) (record { i = c.i + 1; j = c.j; k = c.k })
-    (choose (eqb a 1) (record { i = c.i; j = c.j + 1; k = c.k })
-    (record { i = c.i; j = c.j; k = c.k + 1 }))
+-- a step along an axis
+abbrev pub stepped : Axis → Corner → Corner
+stepped X c = record { i = c.i + 1; j = c.j; k = c.k }
+stepped Y c = record { i = c.i; j = c.j + 1; k = c.k }
+stepped Z c = record { i = c.i; j = c.j; k = c.k + 1 }
 
 -- `PATHS`: the six ways from a cell's first corner to its far one, a step along each axis
-abbrev pub paths : List ℕ
-paths = 0 ∷ 1 ∷ 2 ∷ 0 ∷ 2 ∷ 1 ∷ 1 ∷ 0 ∷ 2 ∷ 1 ∷ 2 ∷ 0 ∷ 2 ∷ 0 ∷ 1 ∷ 2 ∷ 1 ∷ 0 ∷ []
+abbrev pub paths : List (List Axis)
+paths = (X ∷ Y ∷ Z ∷ []) ∷ (X ∷ Z ∷ Y ∷ []) ∷ (Y ∷ X ∷ Z ∷ []) ∷ (Y ∷ Z ∷ X ∷ []) ∷ (Z ∷ X ∷ Y ∷ []) ∷ (Z ∷ Y ∷ X ∷ []) ∷ []
 
 -- the axis of step m of tetrahedron e, which takes way e % 6 in cell e / 6
-abbrev pub axis_of : ℕ → ℕ → ℕ
-axis_of e m = get_or paths (3 * (e % 6) + m) 0
+abbrev pub axis_of : ℕ → ℕ → Axis
+axis_of e m = get_or (get_or paths (e % 6) []) m X
 
 -- how many tetrahedra there are
 abbrev pub tets_in : Grid → ℕ
@@ -61,21 +62,40 @@ tets_in g = 6 * (g.nx * (g.ny * g.nz))
 unfoldable pub first_of : Grid → ℕ → Corner
 first_of g e = record { i = e / 6 % g.nx; j = e / 6 / g.nx % g.ny; k = e / 6 / g.nx / g.ny }
 
+-- corner m of four
+abbrev pub nth : List Corner → ℕ → Corner
+nth f m = get_or f m (record { i = 0; j = 0; k = 0 })
+
 -- the corners that way e % 6 passes
-unfoldable pub way_of : Grid → ℕ → Four
+unfoldable pub way_of : Grid → ℕ → List Corner
 way_of g e =
     let p = first_of g e in
     let q = stepped (axis_of e 0) p in
     let r = stepped (axis_of e 1) q in
-    record { a = p; b = q; c = r; d = stepped (axis_of e 2) r }
+    p ∷ q ∷ r ∷ stepped (axis_of e 2) r ∷ []
 
 -- the corners of tetrahedron e: the second and the third change places where (b − a)·((c − a)×(d − a)) < 0
-unfoldable pub four_of : Grid → ℕ → Four
+unfoldable pub four_of : Grid → ℕ → List Corner
 four_of g e =
-    let w = way_of g e in
-    choose (lt (triple (place_of g w.a) (place_of g w.b) (place_of g w.c) (place_of g w.d)) zero64)
-    (record { a = w.a; b = w.c; c = w.b; d = w.d })
-    w
+    let w = nth (way_of g e) in
+    choose (lt (triple (place_of g (w 0)) (place_of g (w 1)) (place_of g (w 2)) (place_of g (w 3))) zero64)
+    (w 0 ∷ w 2 ∷ w 1 ∷ w 3 ∷ [])
+    (w 0 ∷ w 1 ∷ w 2 ∷ w 3 ∷ [])
+
+-- a corner's number, and where it is
+abbrev pub vertex_of : Grid → Corner → Vertex
+vertex_of g c = record { number = number_of g c; place = place_of g c }
+
+-- the corners of tetrahedron e so, and their numbers
+abbrev pub vertices_of : Grid → ℕ → List Vertex
+vertices_of g e =
+    let v : ℕ → Vertex = λ m. vertex_of g (nth (four_of g e) m) in
+    v 0 ∷ v 1 ∷ v 2 ∷ v 3 ∷ []
+
+abbrev pub numbers_of : Grid → ℕ → List ℕ
+numbers_of g e =
+    let n : ℕ → ℕ = λ m. number_of g (nth (four_of g e) m) in
+    n 0 ∷ n 1 ∷ n 2 ∷ n 3 ∷ []
 
 -- ---- the edges and their middles
 
@@ -86,15 +106,15 @@ Edge = ℕ × ℕ
 abbrev pub edge : ℕ → ℕ → Edge
 edge a b = (min a b, max a b)
 
--- the sides of tetrahedron e in the mesher's order: 0-1, 1-2, 2-0, 0-3, 2-3, 1-3
+-- the sides between four corners of these numbers in the mesher's order: 0-1, 1-2, 2-0, 0-3, 2-3, 1-3
+abbrev pub sides_between : List ℕ → List Edge
+sides_between numbers =
+    let n : ℕ → ℕ = λ m. get_or numbers m 0 in
+    edge (n 0) (n 1) ∷ edge (n 1) (n 2) ∷ edge (n 2) (n 0) ∷ edge (n 0) (n 3) ∷ edge (n 2) (n 3) ∷ edge (n 1) (n 3) ∷ []
+
+-- the sides of tetrahedron e
 unfoldable pub sides_of : Grid → ℕ → List Edge
-sides_of g e =
-    let f = four_of g e in
-    let a = number_of g f.a in
-    let b = number_of g f.b in
-    let c = number_of g f.c in
-    let d = number_of g f.d in
-    edge a b ∷ edge b c ∷ edge c a ∷ edge a d ∷ edge c d ∷ edge b d ∷ []
+sides_of g e = sides_between (numbers_of g e)
 
 -- the place of an edge among those met, counted from 0; their count where it is not among them
 unfoldable pub place_in : Edge → List Edge → ℕ
@@ -144,9 +164,7 @@ node_with g l k = choose (ltb k (corners_in g)) (stored (corner_place g k)) (sto
 
 -- tetrahedron e: the numbers of its corners, then those of its sides' middles
 unfoldable pub tet_of : Grid → ℕ → List ℕ
-tet_of g e =
-    let f = four_of g e in
-    number_of g f.a ∷ number_of g f.b ∷ number_of g f.c ∷ number_of g f.d ∷ map (middle_of g) (sides_of g e)
+tet_of g e = numbers_of g e ++ map (middle_of g) (sides_of g e)
 
 -- ---- how many
 

@@ -1,64 +1,62 @@
 -- The triangles of a tetrahedron: how many there are, and their nodes. Assumes nothing.
 use mathlib.Core.Path.{◌≡◌, refl, sym, ap, ◌∙◌}
-use mathlib.Core.Bool.{Bool, true, false}
-use mathlib.Core.List.{List, [], ◌∷◌, ◌++◌}
+use mathlib.Core.List.{List, [], ◌++◌}
 use Prim.Native.Nat.{ℕ, zero, suc, ◌+◌, ◌*◌, ◌≤◌}
 use native.Mathlib.Omega.{arith}
 use lib.ListN.{length, length-append}
-use lib.Dec.{eqb}
-use Rattle.lists.specs.Lists.{choose, fold_to}
+use Rattle.lists.specs.Lists.{fold_to}
 use Rattle.lists.proofs.Laws.{fold_to-more}
 use Rattle.mesh_lattice.specs.declared.Grid.{Grid}
 use Rattle.mesh_lattice.specs.declared.Corner.{Corner}
-use Rattle.mesh_lattice.specs.Lattice.{place_of, four_of}
-use Rattle.mesh_triangles.specs.Triangles.{side_of, Triangle, face_of, triangles_to}
+use Rattle.mesh_lattice.specs.Lattice.{place_of, nth, four_of}
+use Rattle.mesh_triangles.specs.Triangles.{side_of, Triangle, on_side, face_of, triangles_to}
+use Rattle.mesh_triangles.specs.Steps.{one_of}
+use Rattle.std.proofs.Common.{Option, Some, None}
 
 -- ---- how many
 
 -- 1 where a face lies on a side, and 0 elsewhere
 abbrev pub face_count : Grid → Corner → Corner → Corner → ℕ
-face_count g a b c = choose (eqb (side_of g (place_of g a) (place_of g b) (place_of g c)) 0) 0 1
+face_count g a b c = one_of (side_of g (place_of g a) (place_of g b) (place_of g c))
 
-pub at_most_one : (t : Bool) → choose t 0 1 ≤ 1
-unfolding choose
-at_most_one true = omega arith
-at_most_one false = omega arith
+at_most_one : (s : Option ℕ) → one_of s ≤ 1
+at_most_one None = omega arith
+at_most_one (Some s) = omega arith
 
-length-choose : {A : Type 0} (t : Bool) (x : A) → length (choose t [] (x ∷ [])) ≡ choose t 0 1
-unfolding choose
-length-choose true x = refl
-length-choose false x = refl
+length-on : (s : Option ℕ) (n : List ℕ) → length (on_side s n) ≡ one_of s
+length-on None n = refl
+length-on (Some s) n = refl
 
 face-length : (g : Grid) (a b c o : Corner) → length (face_of g a b c o) ≡ face_count g a b c
 unfolding face_of
-face-length g a b c o = length-choose _ _
+face-length g a b c o = length-on _ _
 
 -- a tetrahedron's faces after others
 abbrev pub with_faces : Grid → ℕ → List Triangle → List Triangle
 with_faces g e l =
     let f = four_of g e in
-    (((l ++ face_of g f.a f.b f.c f.d) ++ face_of g f.a f.b f.d f.c) ++ face_of g f.a f.c f.d f.b)
-    ++ face_of g f.b f.c f.d f.a
+    (((l ++ face_of g (nth f 0) (nth f 1) (nth f 2) (nth f 3)) ++ face_of g (nth f 0) (nth f 1) (nth f 3) (nth f 2)) ++ face_of g (nth f 0) (nth f 2) (nth f 3) (nth f 1))
+    ++ face_of g (nth f 1) (nth f 2) (nth f 3) (nth f 0)
 
 pub faces-more : (g : Grid) (e : ℕ) → with_faces g e (triangles_to g e) ≡ triangles_to g (e + 1)
 unfolding triangles_to
 faces-more g e = fold_to-more (with_faces g) [] e
 
 pub count-more : (g : Grid) (e : ℕ) →
-    length (triangles_to g e) + face_count g (four_of g e).a (four_of g e).b (four_of g e).c + face_count g (four_of g e).a (four_of g e).b (four_of g e).d
-    + face_count g (four_of g e).a (four_of g e).c (four_of g e).d + face_count g (four_of g e).b (four_of g e).c (four_of g e).d
+    length (triangles_to g e) + face_count g (nth (four_of g e) 0) (nth (four_of g e) 1) (nth (four_of g e) 2) + face_count g (nth (four_of g e) 0) (nth (four_of g e) 1) (nth (four_of g e) 3)
+    + face_count g (nth (four_of g e) 0) (nth (four_of g e) 2) (nth (four_of g e) 3) + face_count g (nth (four_of g e) 1) (nth (four_of g e) 2) (nth (four_of g e) 3)
     ≡ length (triangles_to g (e + 1))
 count-more g e =
     let f = four_of g e in
     let l = triangles_to g e in
-    let x = face_of g f.a f.b f.c f.d in
-    let y = face_of g f.a f.b f.d f.c in
-    let z = face_of g f.a f.c f.d f.b in
-    let w = face_of g f.b f.c f.d f.a in
+    let x = face_of g (nth f 0) (nth f 1) (nth f 2) (nth f 3) in
+    let y = face_of g (nth f 0) (nth f 1) (nth f 3) (nth f 2) in
+    let z = face_of g (nth f 0) (nth f 2) (nth f 3) (nth f 1) in
+    let w = face_of g (nth f 1) (nth f 2) (nth f 3) (nth f 0) in
     let sum : length (with_faces g e l) ≡ length l + length x + length y + length z + length w =
     length-append (((l ++ x) ++ y) ++ z) w
     ∙ ap (λ (n : ℕ). n + length w) (length-append ((l ++ x) ++ y) z ∙ ap (λ (n : ℕ). n + length z) (length-append (l ++ x) y ∙ ap (λ (n : ℕ). n + length y) (length-append l x))) in
-    sym (λ i. length l + face-length g f.a f.b f.c f.d i + face-length g f.a f.b f.d f.c i + face-length g f.a f.c f.d f.b i + face-length g f.b f.c f.d f.a i)
+    sym (λ i. length l + face-length g (nth f 0) (nth f 1) (nth f 2) (nth f 3) i + face-length g (nth f 0) (nth f 1) (nth f 3) (nth f 2) i + face-length g (nth f 0) (nth f 2) (nth f 3) (nth f 1) i + face-length g (nth f 1) (nth f 2) (nth f 3) (nth f 0) i)
     ∙ sym sum
     ∙ ap length (faces-more g e)
 
@@ -73,8 +71,8 @@ triangles-few g (suc e) =
       arith,
       triangles-few g e,
       count-more g e,
-      at_most_one (eqb (side_of g (place_of g f.a) (place_of g f.b) (place_of g f.c)) 0),
-      at_most_one (eqb (side_of g (place_of g f.a) (place_of g f.b) (place_of g f.d)) 0),
-      at_most_one (eqb (side_of g (place_of g f.a) (place_of g f.c) (place_of g f.d)) 0),
-      at_most_one (eqb (side_of g (place_of g f.b) (place_of g f.c) (place_of g f.d)) 0),
+      at_most_one (side_of g (place_of g (nth f 0)) (place_of g (nth f 1)) (place_of g (nth f 2))),
+      at_most_one (side_of g (place_of g (nth f 0)) (place_of g (nth f 1)) (place_of g (nth f 3))),
+      at_most_one (side_of g (place_of g (nth f 0)) (place_of g (nth f 2)) (place_of g (nth f 3))),
+      at_most_one (side_of g (place_of g (nth f 1)) (place_of g (nth f 2)) (place_of g (nth f 3))),
     )

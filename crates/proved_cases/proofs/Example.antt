@@ -28,7 +28,7 @@ use Rattle.run_plain.specs.Lent as Lent
 use Rattle.run_plain.specs.Formulas as Formulas
 use Rattle.run_plain.specs.Opening as Opening
 use Rattle.run_plain.specs.Plain as Plain
-use Rattle.strip.specs.declared.Answer.TheVariants.{Read}
+use Rattle.std.specs.Prelude.{Ok}
 use Rattle.strip.specs.Strip as Strip
 use Rattle.run_plain.proofs.Whole.{whole}
 use Rattle.topo.specs.declared.Stop.TheVariants.{Limit}
@@ -36,8 +36,8 @@ use Rattle.shape_solver.specs.Energies as Energies
 use Rattle.shape_report.specs.Report as Report
 use Rattle.proved_cases.specs.Example as Example
 
-is_read : Strip.read_strip Example.strip Example.empty ≡ Strip.reading (Read Example.head) Example.full
-unfolding Strip.read_strip Lists.choose Strip.accepted Example.strip Example.bytes_of Strip.word_at Strip.little_endian Lists.any_to Strip.misplaced Strip.stands Strip.place_at Strip.head_at Strip.part_at Strip.field_at Strip.short Strip.job_of Strip.filled Strip.number_of Lists.overwrite Strip.number_at Strip.point_at
+is_read : Strip.read_strip Example.strip Example.empty ≡ Strip.reading (Ok Example.head) Example.full
+unfolding Strip.read_strip Lists.choose Strip.accepted Example.strip Example.bytes_of Strip.word_at Strip.little_endian Lists.any_to Strip.misplaced Strip.stands Strip.place_at Strip.head_at Strip.part_at Strip.field_at Strip.short Strip.job_of Stages.sharpening_of Strip.filled Strip.number_of Lists.overwrite Strip.number_at Strip.point_at
 is_read = refl
 
 opens : Example.opening_from Example.head Example.full ≡ Example.job

@@ -1,5 +1,5 @@
 -- 01, "Proved cases": all of them, in its order, over the definitions that the contracts cite. Definitions only.
-use Rattle.std.specs.Prelude.{◌≡◌, false, List, [], ◌∷◌, ℕ, ◌<◌, get_or, Float}
+use Rattle.std.specs.Prelude.{◌≡◌, false, List, [], ◌∷◌, ℕ, ◌<◌, get_or, Some, None, Ok, Float}
 use Rattle.std.specs.Float.{nan, binary64}
 use Rattle.std.specs.Float.Ieee.{neg, of_bits}
 use Rattle.lists.specs.Lists.{zero64}
@@ -14,7 +14,6 @@ use Rattle.update_rates.specs.Rates.{half}
 use Rattle.oc_project.specs.Project.{stages, projected}
 use Rattle.update_value.specs.Value.{gain_of, next_of}
 use Rattle.region_off_centre.specs.OffCentre.{off_centre_of}
-use Rattle.region_off_centre.specs.declared.Balance.TheVariants.{Even, Reaches}
 use Rattle.run_plain.specs.declared.Entry.TheVariants.{Kept}
 use Rattle.run_plain.specs.Opening.{Opening, starts_of, near_of, coef_of, entry_of}
 use Rattle.proved_cases.specs.Example.{WorkedExample, room}
@@ -72,5 +71,5 @@ pub record ProvedCases : Type 0 where
   -- "(2,0,0) in plane x = 0: (−2,0,0)"
   pub image_in_x : image (plane_at zero64) (vec two64 zero64 zero64) ≡ vec (neg two64) zero64 zero64
   -- "points at x = 0 and 1, plane x = 0: reaches 1 and 0, at 0.5 none": both zeros count as one
-  pub reaches : off_centre_of two_points (plane_at zero64) ≡ Reaches one64 (neg zero64)
-  pub reaches_none : off_centre_of two_points (plane_at half) ≡ Even
+  pub reaches : off_centre_of two_points (plane_at zero64) ≡ Ok (Some (record { ahead = one64; behind = neg zero64 }))
+  pub reaches_none : off_centre_of two_points (plane_at half) ≡ Ok None

@@ -1,5 +1,5 @@
 -- 01, "The job strip and its program": the worked example, from its strip to what is printed. Definitions only.
-use Rattle.std.specs.Prelude.{◌≡◌, true, false, List, [], ◌∷◌, map, ℕ, ◌/◌, ◌%◌, length, take, replicate, Float}
+use Rattle.std.specs.Prelude.{◌≡◌, true, false, List, [], ◌∷◌, map, ℕ, ◌/◌, ◌%◌, length, take, replicate, Ok, Float}
 use Prim.Native.String.{String}
 use Rattle.std.specs.Float.{binary64}
 use Rattle.std.specs.Float.Ieee.{of_bits}
@@ -8,11 +8,9 @@ use Rattle.ieee.specs.Basic.{one64}
 use Rattle.topo.specs.declared.Iteration.{Iteration}
 use Rattle.topo.specs.declared.Sharpening.TheVariants.{Off}
 use Rattle.topo.specs.declared.Stop.TheVariants.{Limit}
-use Rattle.topo.specs.Stages.{sharpening_of}
 use Rattle.update_rates.specs.Rates.{half}
 use Rattle.shape_solver.specs.Energies.{energies_of}
 use Rattle.shape_report.specs.Report.{ascii, ran, text_of}
-use Rattle.strip.specs.declared.Answer.TheVariants.{Read}
 use Rattle.strip.specs.declared.Job.{Job}
 use Rattle.strip.specs.Strip.{Lists, lent, reading, read_strip}
 use Rattle.run_plain.specs.declared.Said.TheVariants.{Gave}
@@ -50,7 +48,7 @@ strip =
 
 -- what a reading of it says: 64-bit patterns
 abbrev pub head : Job
-head = record { elements = 2; fraction = 0x3fe8_0000_0000_0000; radius = 0x3ff0_0000_0000_0000; sharpen = 0; max_iterations = 1; mirrors = 0 }
+head = record { elements = 2; fraction = 0x3fe8_0000_0000_0000; radius = 0x3ff0_0000_0000_0000; sharpen = Off; max_iterations = 1; mirrors = 0 }
 
 -- "It holds 256 elements [..], all zero at the start"
 abbrev pub empty : Lists
@@ -78,7 +76,7 @@ opening_from j l =
       centroids = map (map (of_bits binary64)) (take j.elements l.centroids);
       passive = take j.elements l.passive;
       mirrors = map (map (of_bits binary64)) (take j.mirrors l.mirrors);
-      goal = record { fraction = of_bits binary64 j.fraction; radius = of_bits binary64 j.radius; sharpen = sharpening_of j.sharpen; max_iterations = j.max_iterations };
+      goal = record { fraction = of_bits binary64 j.fraction; radius = of_bits binary64 j.radius; sharpen = j.sharpen; max_iterations = j.max_iterations };
       flag = false;
       lent = room (256 ∷ 256 ∷ 257 ∷ 256 ∷ 256 ∷ 256 ∷ 256 ∷ 1040 ∷ []);
     }
@@ -148,7 +146,7 @@ lines = "solid 3FF0000000000000\nround 1 3FF0000000000000 3FE8000000000000 3FC99
 -- the strip is read, is this job, its run shows this, and so much is printed; every run of the calls with this opening and these answers, on a state with
 -- no run open, shows the same
 pub record WorkedExample : Type 0 where
-  pub read : read_strip strip empty ≡ reading (Read head) full
+  pub read : read_strip strip empty ≡ reading (Ok head) full
   pub opens : opening_from head full ≡ job
   pub solid_work : (run_from (plain_start job) answers).solid_work ≡ of_bits binary64 0x3ff0_0000_0000_0000
   pub shows : plain_run job answers ≡ shown_run

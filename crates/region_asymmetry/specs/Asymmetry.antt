@@ -1,14 +1,12 @@
 -- region.rs, `asymmetry`: the call, over the distance of crate region_farthest. Definitions only.
-use Rattle.std.specs.Prelude.{ℕ, zero, suc, ◌≡◌, Bool, ◌||◌, List, length, ltb, Float}
+use Rattle.std.specs.Prelude.{ℕ, zero, suc, ◌≡◌, Bool, ◌||◌, List, length, ltb, Float, Result, Ok, Err}
 use Rattle.lists.specs.Lists.{choose}
 use Rattle.geom.specs.declared.Mirror.{Mirror}
-use Rattle.lent.specs.Points.{flat}
+use Rattle.geom.specs.Points.{flat}
 use Rattle.lent.specs.Domain.{plane_bad}
 use Rattle.lent.specs.Lent.{WorkedBy}
 use Rattle.region_checks.specs.Boundary as Boundary
 use Rattle.region_farthest.specs.Farthest.{asymmetry_of}
-use Rattle.region_asymmetry.specs.declared.Distance.{Distance}
-use Rattle.region_asymmetry.specs.declared.Distance.TheVariants.{Refused, Apart}
 
 -- the lists that it works in: one place a triangle, and in the last one a node
 pub record Lent : Type 0 where
@@ -37,16 +35,16 @@ unfoldable pub refusal_of : List (List Float) → List (List ℕ) → Mirror →
 refusal_of nodes tris m short = Boundary.refusal_of 0 nodes tris (choose (plane_bad (flat m)) 11 (choose short 14 0))
 
 -- the answer, case by case: 01's number, or the distance
-unfoldable pub answer_of : ℕ → Float → Distance
-answer_of zero far = Apart far
-answer_of (suc k) far = Refused (suc k)
+unfoldable pub answer_of : ℕ → Float → Result Float ℕ
+answer_of zero far = Ok far
+answer_of (suc k) far = Err (suc k)
 
 -- what `asymmetry` answers and leaves
 module _ (nodes : List (List Float)) (tris : List (List ℕ)) (m : Mirror) (l : Lent) where
   abbrev pub refused : ℕ
   refused = refusal_of nodes tris m (too_short (length tris) (length nodes) l)
 
-  pub record Measured (l' : Lent) (r : Distance) : Type 0 where
+  pub record Measured (l' : Lent) (r : Result Float ℕ) : Type 0 where
     pub answer : r ≡ answer_of refused (asymmetry_of nodes tris m)
     pub faces : WorkedBy refused (length tris) l.faces l'.faces
     pub kx : WorkedBy refused (length tris) l.kx l'.kx

@@ -1,5 +1,7 @@
 -- What the steps of the code promise each other. No part of what a caller must believe. Definitions only.
 use Rattle.std.specs.Prelude.{ℕ, ◌≤◌, ◌<◌, ◌≡◌, Bool, List, length, Float}
+use Rattle.lent.specs.Lent.{Free}
+use Rattle.region_asymmetry.specs.Asymmetry.{Lent}
 
 -- lists of just the needed places
 pub record Fits (nodes : List (List Float)) (tris : List (List ℕ)) (faces : List (List Float)) (kx ky kz order scratch : List ℕ) (boxes : List (List Float)) (seen : List Bool) : Type 0 where
@@ -13,3 +15,27 @@ pub record Fits (nodes : List (List Float)) (tris : List (List ℕ)) (faces : Li
   pub scratch-fit : length scratch ≡ length tris
   pub boxes-fit : length boxes ≡ length tris
   pub seen-fit : length seen ≡ length nodes
+
+-- lists that may be longer, for n triangles and m nodes
+pub record Roomy (n m : ℕ) (l : Lent) : Type 0 where
+  pub some : 0 < n
+  pub few : n ≤ 65535
+  pub faces : n ≤ length l.faces
+  pub kx : n ≤ length l.kx
+  pub ky : n ≤ length l.ky
+  pub kz : n ≤ length l.kz
+  pub order : n ≤ length l.order
+  pub scratch : n ≤ length l.scratch
+  pub boxes : n ≤ length l.boxes
+  pub seen : m ≤ length l.seen
+
+-- the lists are as lent past the places needed
+pub record Past (n m : ℕ) (l l' : Lent) : Type 0 where
+  pub faces : Free n l.faces l'.faces
+  pub kx : Free n l.kx l'.kx
+  pub ky : Free n l.ky l'.ky
+  pub kz : Free n l.kz l'.kz
+  pub order : Free n l.order l'.order
+  pub scratch : Free n l.scratch l'.scratch
+  pub boxes : Free n l.boxes l'.boxes
+  pub seen : Free m l.seen l'.seen

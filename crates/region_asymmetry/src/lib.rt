@@ -1,32 +1,48 @@
 // How far a part's boundary is from its image in a plane (region.rs, `asymmetry`).
 #![tactic(auto)]
 
-ghost use Rattle.std.specs.Prelude.{◌≡◌};
+ghost use Rattle.std.specs.Prelude.{◌≡◌, length};
+ghost use Rattle.refusal.specs.Refusals.{refused, numbered};
 ghost use Rattle.region_farthest.specs.Farthest.{asymmetry_of};
 ghost use Rattle.region_asymmetry.specs.Asymmetry as Spec;
+ghost use Rattle.region_asymmetry.specs.Held as Held;
 ghost use Rattle.region_asymmetry.specs.Steps as Steps;
 
 use geom::Mirror;
+use refusal::Refusal;
+use region_nearest::stored::StoredTree;
+use region_tree::keyed::Keyed;
 
-#[derive(Clone, Copy)]
-pub enum Distance {
-    Refused(u32),
-    Apart(f64),
+// The lists to work in: one place a triangle, and in seen one a node.
+#[derive(Drop)]
+pub struct Work<'a> {
+    pub faces: &'a mut [[f64; 9]],
+    pub kx: &'a mut [u64],
+    pub ky: &'a mut [u64],
+    pub kz: &'a mut [u64],
+    pub order: &'a mut [u32],
+    pub scratch: &'a mut [u32],
+    pub boxes: &'a mut [[f64; 6]],
+    pub seen: &'a mut [bool],
 }
 
-// The refusal, 0 where there is none; short tells whether a lent list has too few places.
-fn refusal(nodes: &[[f64; 3]], tris: &[[u32; 6]], mirror: Mirror, short: bool) -> u32
-    ensures { result ≡ Spec.refusal_of nodes.now tris.now mirror short }
+// Refuses by 3, 21, 9, 11 or 14; short tells whether a lent list has too few places.
+#[tactic(auto, unfolding(crate::specs::Asymmetry::refusal_of, lists::specs::Lists::choose))]
+fn check(nodes: &[[f64; 3]], tris: &[[u32; 6]], mirror: Mirror, short: bool) -> Result<(), Refusal>
+    ensures { refused result ≡ Spec.refusal_of nodes.now tris.now mirror short }
 {
-    let rest = lists::first(
-        region_off_centre::plane_bad(mirror),
-        11,
-        lists::first(short, 14, 0),
-    );
-    region_checks::refusal(0, nodes, tris, rest)
+    region_checks::check(0, nodes, tris)?;
+    if region_off_centre::plane_bad(mirror) {
+        return Err(Refusal::PlaneOutside);
+    }
+    if short {
+        return Err(Refusal::ListTooShort);
+    }
+    Ok(())
 }
 
 // The distance, with lists of just as many places as are needed.
+// Stays a row of lists: of a struct of them that is moved on whole, the caller's proof did not know what they hold at its end.
 fn apart(
     nodes: &[[f64; 3]],
     tris: &[[u32; 6]],
@@ -46,14 +62,19 @@ fn apart(
     region_farthest::fill::gather(nodes, tris, faces);
     region_farthest::fill::keys(faces, kx, ky, kz);
     region_farthest::fill::number(order);
-    region_farthest::fill::clear(seen);
     region_farthest::fill::mark(tris, seen);
-    region_tree::build(faces, kx, ky, kz, order, scratch, boxes);
-    region_farthest::far::farthest(nodes, mirror, faces, order, boxes, seen)
+    let keyed = Keyed { faces, kx, ky, kz };
+    region_tree::build(keyed, order, scratch, boxes);
+    let tree = StoredTree {
+        faces,
+        order,
+        boxes,
+    };
+    region_farthest::far::farthest(nodes, mirror, tree, seen)
 }
 
-// The distance or the refusal. All lists from faces on are for the call's own use: one place a triangle, and in seen one a node.
-pub fn asymmetry(
+// The same in lists that may be longer, of which the places past those needed are left as they were lent.
+fn apart_front(
     nodes: &[[f64; 3]],
     tris: &[[u32; 6]],
     mirror: Mirror,
@@ -65,29 +86,14 @@ pub fn asymmetry(
     scratch: &mut [u32],
     boxes: &mut [[f64; 6]],
     seen: &mut [bool],
-) -> Distance
-    ensures { Spec.Measured nodes.now tris.now mirror
-        (Spec.lent faces.old kx.old ky.old kz.old order.old scratch.old boxes.old seen.old)
-        (Spec.lent faces.new kx.new ky.new kz.new order.new scratch.new boxes.new seen.new) result }
+) -> f64
+    requires { Steps.Roomy (length tris.now) (length nodes.now) (Spec.lent faces.old kx.old ky.old kz.old order.old scratch.old boxes.old seen.old) }
+    ensures apart { result ≡ asymmetry_of nodes.now tris.now mirror }
+    ensures past { Steps.Past (length tris.now) (length nodes.now) (Spec.lent faces.old kx.old ky.old kz.old order.old scratch.old boxes.old seen.old) (Spec.lent faces.new kx.new ky.new kz.new order.new scratch.new boxes.new seen.new) }
 {
     let n = tris.len();
     let m = nodes.len();
-    let short = (faces.len() < n)
-        | (kx.len() < n)
-        | (ky.len() < n)
-        | (kz.len() < n)
-        | (order.len() < n)
-        | (scratch.len() < n)
-        | (boxes.len() < n)
-        | (seen.len() < m);
-    let r = refusal(nodes, tris, mirror, short);
-    if r > 0 {
-        return Distance::Refused(r);
-    }
-    if n == 0 {
-        return Distance::Apart(0.0);
-    }
-    Distance::Apart(apart(
+    apart(
         nodes,
         tris,
         mirror,
@@ -99,5 +105,42 @@ pub fn asymmetry(
         &mut scratch[..n],
         &mut boxes[..n],
         &mut seen[..m],
+    )
+}
+
+// The distance, or the refusal.
+pub fn asymmetry(
+    nodes: &[[f64; 3]],
+    tris: &[[u32; 6]],
+    mirror: Mirror,
+    work: Work,
+) -> Result<f64, Refusal>
+    ensures { Spec.Measured nodes.now tris.now mirror (Held.lent work.entry) (Held.left work.exit) (numbered result) }
+{
+    let Work {
+        faces,
+        kx,
+        ky,
+        kz,
+        order,
+        scratch,
+        boxes,
+        seen,
+    } = work;
+    let n = tris.len();
+    let short = (faces.len() < n)
+        | (kx.len() < n)
+        | (ky.len() < n)
+        | (kz.len() < n)
+        | (order.len() < n)
+        | (scratch.len() < n)
+        | (boxes.len() < n)
+        | (seen.len() < nodes.len());
+    check(nodes, tris, mirror, short)?;
+    if n == 0 {
+        return Ok(0.0);
+    }
+    Ok(apart_front(
+        nodes, tris, mirror, faces, kx, ky, kz, order, scratch, boxes, seen,
     ))
 }

@@ -1,24 +1,15 @@
 -- The flags that the code sets are those of the kept nodes. Assumes nothing.
-use mathlib.Core.Path.{◌≡◌, refl, sym, ap, ◌∙◌}
+use mathlib.Core.Path.{◌≡◌, sym, ap, ◌∙◌}
 use mathlib.Core.Bool.{Bool, true, false, ◌||◌, ◌&&◌}
 use mathlib.Core.List.{List, []}
-use Prim.Native.Nat.{ℕ, ◌+◌}
-use lib.ListN.{length, get_or, set}
+use Prim.Native.Nat.{ℕ}
+use lib.ListN.{length, get_or, set, replicate}
 use lib.Dec.{eqb}
-use Rattle.lists.specs.Lists.{tabulate, overwrite, any_to, choose}
-use Rattle.lists.proofs.Laws.{fold_to-none, fold_to-more, overwrite-all}
+use Rattle.lists.specs.Lists.{tabulate, any_to, choose}
+use Rattle.lists.proofs.Laws.{tabulate_throughout}
 use Rattle.region_by_nodes.specs.Nodes.{in_set, names, node_of_set, kept_node, by_nodes}
 use Rattle.region_by_nodes.specs.Steps.{flagged, flagged_set, flagged_sets, any_flagged}
 use Rattle.region_by_nodes.proofs.Adds.{Adds, set-adds, choose-adds, fold-adds, flag_at}
-
--- one number more, as a loop's turn states it
-pub flagged-none : (l : List ℕ) (keep : List Bool) → keep ≡ flagged l 0 keep
-unfolding flagged
-flagged-none l keep = sym (fold_to-none _ keep)
-
-pub flagged-more : (l : List ℕ) (m : ℕ) (keep w v : List Bool) → w ≡ flagged l m keep → v ≡ set w (get_or l m 0) true → v ≡ flagged l (m + 1) keep
-unfolding flagged
-flagged-more l m keep w v e ev = ev ∙ ap (λ (t : List Bool). set t (get_or l m 0) true) e ∙ fold_to-more (λ k t. set t (get_or l k 0) true) keep m
 
 flagged-adds : (n : ℕ) (l : List ℕ) (m : ℕ) → Adds n (flagged l m) (names l m)
 unfolding flagged names
@@ -50,15 +41,12 @@ module _ (n : ℕ) (tris : List (List ℕ)) (surfaces starts kept : List ℕ) wh
     any-kept tet = λ j. any_to (λ k. flag_at (kept_node tris surfaces starts kept held loaded sets) n (get_or tet k 0) j) 10
 
     -- the marks, as the calls leave them
-    pub marked : (keep keep₁ keep₂ keep₃ keep₄ marks marks' : List Bool) (tets : List (List ℕ)) → length keep ≡ n → keep₁ ≡ overwrite (λ _. false) (length keep) keep → keep₂ ≡ flagged held (length held) keep₁
-        → keep₃ ≡ flagged loaded (length loaded) keep₂ → keep₄ ≡ flagged_sets tris surfaces starts kept sets keep₃ → length marks ≡ length tets
-        → marks' ≡ overwrite (λ e. any_flagged keep₄ (get_or tets e [])) (length tets) marks → marks' ≡ tabulate (λ e. by_nodes tris surfaces starts kept held loaded sets n (get_or tets e [])) (length tets)
-    marked keep keep₁ keep₂ keep₃ keep₄ marks marks' tets h e₁ e₂ e₃ e₄ many e =
-        e ∙ overwrite-all (λ i. any_flagged keep₄ (get_or tets i [])) (length tets) marks many ∙ (λ j. tabulate (λ i. (ap (λ (w : List Bool). any_flagged w (get_or tets i [])) flags ∙ any-kept (get_or tets i [])) j) (length tets))
+    pub marked : (keep₁ keep₂ keep₃ keep₄ marks : List Bool) (tets : List (List ℕ)) → keep₁ ≡ replicate n false → keep₂ ≡ flagged held (length held) keep₁
+        → keep₃ ≡ flagged loaded (length loaded) keep₂ → keep₄ ≡ flagged_sets tris surfaces starts kept sets keep₃
+        → marks ≡ tabulate (λ e. any_flagged keep₄ (get_or tets e [])) (length tets) → marks ≡ tabulate (λ e. by_nodes tris surfaces starts kept held loaded sets n (get_or tets e [])) (length tets)
+    marked keep₁ keep₂ keep₃ keep₄ marks tets e₁ e₂ e₃ e₄ e =
+        e ∙ (λ j. tabulate (λ i. (ap (λ (w : List Bool). any_flagged w (get_or tets i [])) flags ∙ any-kept (get_or tets i [])) j) (length tets))
       where
-        cleared : keep₁ ≡ tabulate (λ _. false) n
-        cleared = e₁ ∙ overwrite-all (λ _. false) (length keep) keep refl ∙ ap (tabulate (λ _. false)) h
-
         flags : keep₄ ≡ tabulate (kept_node tris surfaces starts kept held loaded sets) n
         flags =
-            e₄ ∙ ap (flagged_sets tris surfaces starts kept sets) (e₃ ∙ ap (flagged loaded (length loaded)) (e₂ ∙ ap (flagged held (length held)) cleared)) ∙ kept-flags
+            e₄ ∙ ap (flagged_sets tris surfaces starts kept sets) (e₃ ∙ ap (flagged loaded (length loaded)) (e₂ ∙ ap (flagged held (length held)) (e₁ ∙ sym (tabulate_throughout false n)))) ∙ kept-flags

@@ -1,46 +1,23 @@
 // Marks by nodes (region.rs, `passive`): the elements with a node that is held, loaded, or of a triangle of a kept set. Internal: lists are as long as needed.
 #![tactic(auto)]
 
-ghost use Rattle.std.specs.Prelude.{◌≡◌, true, false, [], ◌+◌, ◌-◌, ◌≤◌, ◌<◌, min, length, get_or, set};
-ghost use Rattle.lists.specs.Lists.{tabulate, overwrite};
+ghost use Rattle.std.specs.Prelude.{◌≡◌, true, false, [], ◌<◌, length, get_or, set};
+ghost use Rattle.lists.specs.Lists.{tabulate};
 ghost use Rattle.region_by_nodes.specs.Nodes.{of_set, by_nodes};
 ghost use Rattle.region_by_nodes.specs.Steps.{flagged, flagged_set, flagged_sets, any_flagged};
 
-// How many places there are from a start up to an end, of a list of n.
-fn places(from: usize, end: usize, n: usize) -> usize
-    ensures { result ≡ min end n - from }
-{
-    let to = lists::lesser(end, n);
-    if from < to { to - from } else { 0 }
-}
+pub mod boundary;
+
+use crate::boundary::Boundary;
 
 // Whether a surface is in set s.
-pub fn in_set(starts: &[u32], kept: &[u32], s: usize, surface: u32) -> bool
-    requires { s + 1 < length starts.now }
-    ensures { result ≡ of_set starts.now kept.now s surface }
+pub fn in_set(b: Boundary, s: usize, surface: u32) -> bool
+    requires { s < length b.depths.now }
+    ensures { result ≡ of_set b.entry.starts.now b.entry.kept.now s surface }
 {
-    let from = starts[s] as usize;
-    let end = starts[s + 1usize] as usize;
-    let n = places(from, end, kept.len());
-    let mut found = false;
-    let mut j = 0usize;
-    while j < n {
-        found = found | (kept[from + j] == surface);
-        j += 1usize;
-    }
-    found
-}
-
-// No node is flagged.
-fn clear(keep: &mut [bool])
-    ensures { keep.new ≡ overwrite (λ _. false) (length keep.old) keep.old }
-{
-    let n = keep.len();
-    let mut i = 0usize;
-    while i < n {
-        keep[i] = false;
-        i += 1usize;
-    }
+    let end = (b.starts[s + 1] as usize).min(b.kept.len());
+    let from = (b.starts[s] as usize).min(end);
+    b.kept[from..end].contains(&surface)
 }
 
 // Flags node n, where there is one.
@@ -54,67 +31,35 @@ fn flag(n: u32, keep: &mut [bool])
 }
 
 // Flags the nodes of a list.
-fn flag_all(numbers: &[u32], keep: &mut [bool])
+#[tactic(auto, unfolding(crate::specs::Steps::flagged, lists::specs::Lists::fold_to))]
+pub fn flag_all(numbers: &[u32], keep: &mut [bool])
     ensures { keep.new ≡ flagged numbers.now (length numbers.now) keep.old }
 {
-    let mut k = 0usize;
-    while k < numbers.len() {
-        flag(numbers[k], keep);
-        k += 1usize;
-    }
-}
-
-// Flags the nodes of a triangle.
-fn flag_triangle(tri: [u32; 6], keep: &mut [bool])
-    ensures { keep.new ≡ flagged tri 6 keep.old }
-{
-    let mut k = 0usize;
-    while k < 6 {
-        flag(tri[k], keep);
-        k += 1usize;
+    for n in numbers {
+        flag(*n, keep);
     }
 }
 
 // Flags the nodes of set s.
-fn flag_set(
-    tris: &[[u32; 6]],
-    surfaces: &[u32],
-    starts: &[u32],
-    kept: &[u32],
-    s: usize,
-    keep: &mut [bool],
-)
-    requires { (length tris.now ≤ length surfaces.now) × (s + 1 < length starts.now) }
-    ensures { keep.new ≡ flagged_set tris.now surfaces.now starts.now kept.now s keep.old }
+#[tactic(auto, unfolding(crate::specs::Nodes::in_set, crate::specs::Steps::flagged_set, lists::specs::Lists::fold_to, lists::specs::Lists::choose))]
+fn flag_set(b: Boundary, s: usize, keep: &mut [bool])
+    requires { s < length b.depths.now }
+    ensures { keep.new ≡ flagged_set b.entry.tris.now b.entry.surfaces.now b.entry.starts.now b.entry.kept.now s keep.old }
 {
-    let n = tris.len();
-    let mut t = 0usize;
-    while t < n {
-        let tri = tris[t];
-        let surface = surfaces[t];
-        t += 1usize;
-        if in_set(starts, kept, s, surface) {
-            flag_triangle(tri, keep);
+    for (t, tri) in b.tris.iter().enumerate() {
+        if in_set(b, s, b.surfaces[t]) {
+            flag_all(tri, keep);
         }
     }
 }
 
 // Flags the nodes of all sets.
-fn flag_sets(
-    tris: &[[u32; 6]],
-    surfaces: &[u32],
-    starts: &[u32],
-    kept: &[u32],
-    sets: usize,
-    keep: &mut [bool],
-)
-    requires { (length tris.now ≤ length surfaces.now) × (sets < length starts.now) }
-    ensures { keep.new ≡ flagged_sets tris.now surfaces.now starts.now kept.now sets keep.old }
+#[tactic(auto, unfolding(crate::specs::Steps::flagged_sets, lists::specs::Lists::fold_to))]
+fn flag_sets(b: Boundary, keep: &mut [bool])
+    ensures { keep.new ≡ flagged_sets b.entry.tris.now b.entry.surfaces.now b.entry.starts.now b.entry.kept.now (length b.entry.depths.now) keep.old }
 {
-    let mut s = 0usize;
-    while s < sets {
-        flag_set(tris, surfaces, starts, kept, s, keep);
-        s += 1usize;
+    for s in 0..b.depths.len() {
+        flag_set(b, s, keep);
     }
 }
 
@@ -127,49 +72,42 @@ fn is_flagged(keep: &[bool], n: u32) -> bool
 }
 
 // Whether a tetrahedron has such a node.
+#[tactic(auto, unfolding(crate::specs::Steps::any_flagged, lists::specs::Lists::any_to))]
 fn any_flagged(keep: &[bool], tet: [u32; 10]) -> bool
     ensures { result ≡ any_flagged keep.now tet }
 {
     let mut found = false;
-    let mut k = 0usize;
-    while k < 10 {
-        found = found | is_flagged(keep, tet[k]);
-        k += 1usize;
+    for n in &tet {
+        found |= is_flagged(keep, *n);
     }
     found
 }
 
+#[tactic(auto, using(lists::proofs::Filled::stored, lists::proofs::Filled::filled), unfolding(lists::specs::Lists::overwrite))]
 fn mark(keep: &[bool], tets: &[[u32; 10]], marks: &mut [bool])
-    requires { length tets.now ≤ length marks.old }
-    ensures { marks.new ≡ overwrite (λ e. any_flagged keep.now (get_or tets.now e [])) (length tets.now) marks.old }
+    requires { length marks.old ≡ length tets.now }
+    ensures { marks.new ≡ tabulate (λ e. any_flagged keep.now (get_or tets.now e [])) (length tets.now) }
 {
-    let n = tets.len();
-    let mut e = 0usize;
-    while e < n {
-        marks[e] = any_flagged(keep, tets[e]);
-        e += 1usize;
+    for (e, m) in marks.iter_mut().enumerate() {
+        *m = any_flagged(keep, tets[e]);
     }
 }
 
 // Marks by nodes, and no others. `keep` is to work in: a flag for each node.
 pub fn by_nodes(
     tets: &[[u32; 10]],
-    tris: &[[u32; 6]],
-    surfaces: &[u32],
+    b: Boundary,
     held: &[u32],
     loaded: &[u32],
-    starts: &[u32],
-    kept: &[u32],
-    sets: usize,
     keep: &mut [bool],
     marks: &mut [bool],
 )
-    requires { (length tris.now ≤ length surfaces.now) × (sets < length starts.now) × (length marks.old ≡ length tets.now) }
-    ensures { marks.new ≡ tabulate (λ e. by_nodes tris.now surfaces.now starts.now kept.now held.now loaded.now sets (length keep.old) (get_or tets.now e [])) (length tets.now) }
+    requires { length marks.old ≡ length tets.now }
+    ensures { marks.new ≡ tabulate (λ e. by_nodes b.entry.tris.now b.entry.surfaces.now b.entry.starts.now b.entry.kept.now held.now loaded.now (length b.entry.depths.now) (length keep.old) (get_or tets.now e [])) (length tets.now) }
 {
-    clear(keep);
+    keep.fill(false);
     flag_all(held, keep);
     flag_all(loaded, keep);
-    flag_sets(tris, surfaces, starts, kept, sets, keep);
+    flag_sets(b, keep);
     mark(keep, tets, marks);
 }

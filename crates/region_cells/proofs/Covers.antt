@@ -11,13 +11,15 @@ use lib.Ieee.{Float, binary64, mul}
 use borrow.Author.Tests.{le-leb, lt-leb, lt-ltb, le-ltb}
 use Rattle.ieee_whole.proofs.Floor.{floor-fits}
 use Rattle.lists.proofs.Laws.{length-tabulate, get_or-tabulate}
-use Rattle.lent.specs.Points.{point}
+use Rattle.geom.specs.Points.{point}
 use Rattle.cells.specs.Cells.{axis, within, box_cell, in_box, changed}
+use Rattle.cells.specs.Cells.{about}
+use Rattle.cells.specs.declared.Block.{Block}
 use Rattle.cells.proofs.Changed.{changed-none, changed-same, and-false}
 use Rattle.lists.proofs.Bools.{le-or-lt}
 use Rattle.region_cells.specs.Depth.{low_of, high_of, cell_number, axis_near, cells_near, reaches}
 use Rattle.region_cells.specs.Steps.{cell_about, Ready, near_at, box_near, reached}
-use Rattle.region_cells.specs.declared.Triangle.{Triangle}
+use Rattle.faces.specs.declared.Triangle.{Triangle}
 
 -- the numbers within one of those from l to h, of those that fit 64 digits
 range-within : (l h v : ℕ) → v < 2 ^ 64 → (leb l (v + 1) && leb v (h + 1)) ≡ within (l - 1) (min (h + 1) (2 ^ 64 - 1) + 1) v
@@ -84,3 +86,17 @@ module _ (t : Triangle) (size depth : Float) (centroids : List (List Float)) (ce
 
     pub reach-none-y : (marks : List Bool) → length marks ≡ length centroids → y1 < y0 → marks ≡ reached size depth t centroids marks
     reach-none-y marks len h = reach-done marks marks len (changed-none (λ _ _. true) true _ marks (λ i. empty-y t square centroids cells x0 x1 y0 y1 z0 z1 i h))
+
+  -- the same of the block about the triangle's box
+  module _ (b : Block) (is : b ≡ about (cell_about size (low_of t)) (cell_about size (high_of t))) where
+    pub walk-done : (marks marks' : List Bool) → length marks ≡ length centroids → marks' ≡ changed (box_near t square centroids cells b.x0 (b.x1 + 1) b.y0 (b.y1 + 1) b.z0 (b.z1 + 1)) (λ _ _. true) marks → marks' ≡ reached size depth t centroids marks
+    unfolding cell_about
+    walk-done = reach-done b.x0 b.x1 b.y0 b.y1 b.z0 b.z1 (ap (λ (v : Block). v.x0) is) (ap (λ (v : Block). v.x1) is) (ap (λ (v : Block). v.y0) is) (ap (λ (v : Block). v.y1) is) (ap (λ (v : Block). v.z0) is) (ap (λ (v : Block). v.z1) is)
+
+    pub walk-none-x : (marks : List Bool) → length marks ≡ length centroids → b.x1 < b.x0 → marks ≡ reached size depth t centroids marks
+    unfolding cell_about
+    walk-none-x = reach-none-x b.x0 b.x1 b.y0 b.y1 b.z0 b.z1 (ap (λ (v : Block). v.x0) is) (ap (λ (v : Block). v.x1) is) (ap (λ (v : Block). v.y0) is) (ap (λ (v : Block). v.y1) is) (ap (λ (v : Block). v.z0) is) (ap (λ (v : Block). v.z1) is)
+
+    pub walk-none-y : (marks : List Bool) → length marks ≡ length centroids → b.y1 < b.y0 → marks ≡ reached size depth t centroids marks
+    unfolding cell_about
+    walk-none-y = reach-none-y b.x0 b.x1 b.y0 b.y1 b.z0 b.z1 (ap (λ (v : Block). v.x0) is) (ap (λ (v : Block). v.x1) is) (ap (λ (v : Block). v.y0) is) (ap (λ (v : Block). v.y1) is) (ap (λ (v : Block). v.z0) is) (ap (λ (v : Block). v.z1) is)

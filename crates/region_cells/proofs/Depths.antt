@@ -9,13 +9,13 @@ use lib.Seq.{ext_get_or}
 use lib.Ieee.{Float}
 use Rattle.lists.specs.Lists.{tabulate, any_to, choose}
 use Rattle.lists.proofs.Laws.{length-tabulate, get_or-tabulate}
-use Rattle.lent.specs.Points.{point}
+use Rattle.geom.specs.Points.{point}
 use Rattle.cells.specs.Cells.{changed}
 use Rattle.cells.proofs.Changed.{length-changed, get_or-changed}
 use Rattle.region_by_nodes.proofs.Adds.{Adds, choose-adds, fold-adds}
 use Rattle.region_cells.specs.Depth.{corners_of, reaches}
 use Rattle.region_cells.specs.Steps.{reached, reached_by}
-use Rattle.region_cells.specs.declared.Triangle.{Triangle}
+use Rattle.faces.specs.declared.Triangle.{Triangle}
 
 changed-adds : (n : ℕ) (p : ℕ → Bool) → Adds n (changed p (λ _ _. true)) p
 changed-adds n p f =

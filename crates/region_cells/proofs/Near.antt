@@ -9,12 +9,12 @@ use lib.Seq.{set-get_or}
 use lib.Ieee.{Float}
 use Rattle.lists.specs.Lists.{choose}
 use Rattle.lists.proofs.Laws.{both, choose-true, choose-false}
-use Rattle.cells.specs.Cells.{in_box}
-use Rattle.cells.proofs.Changed.{Grows, grows-over}
+use Rattle.cells.specs.Cells.{in_box, changed}
+use Rattle.cells.proofs.Changed.{Grows, grows-over, changed-none, changed-more}
 use Rattle.cells.proofs.Walks.{Walked, walk-hit, walk_miss}
-use Rattle.cells.proofs.Boxes.{box-own, box-cell, grows-x, grows-y}
+use Rattle.cells.proofs.Boxes.{box-own, box-cell, grows-x, grows-y, none-x, none-y}
 use Rattle.region_cells.specs.Steps.{near_at, box_near, seen_at}
-use Rattle.region_cells.specs.declared.Triangle.{Triangle}
+use Rattle.faces.specs.declared.Triangle.{Triangle}
 
 -- an element that is marked stays so
 pub marked-stays : (w : List Bool) (i : ℕ) (p : Bool) → get_or w i false ≡ true → w ≡ choose p (set w i true) w
@@ -39,6 +39,23 @@ module _ (t : Triangle) (limit : Float) (centroids : List (List Float)) (cells :
       → Grows (box_near t limit centroids cells x0 x1 k (k + 1) z0 z1 i) (box_near t limit centroids cells x0 x1 y0 k z0 z1 i) (box_near t limit centroids cells x0 x1 y0 (k + 1) z0 z1 i)
   unfolding box_near
   near-grows-y x0 x1 y0 k z0 z1 le i = grows-over (near_at t limit centroids i) _ _ _ (grows-y cells x0 x1 y0 k z0 z1 le i)
+
+  pub near-none-x : (marks : List Bool) (x0 y0 y1 z0 z1 : ℕ) → marks ≡ changed (box_near t limit centroids cells x0 x0 y0 y1 z0 z1) (λ _ _. true) marks
+  unfolding box_near
+  near-none-x marks x0 y0 y1 z0 z1 = changed-none (λ _ _. true) true _ marks (λ i. rw (none-x cells x0 y0 y1 z0 z1 i))
+
+  pub near-none-y : (marks : List Bool) (x0 x1 y0 z0 z1 : ℕ) → marks ≡ changed (box_near t limit centroids cells x0 x1 y0 y0 z0 z1) (λ _ _. true) marks
+  unfolding box_near
+  near-none-y marks x0 x1 y0 z0 z1 = changed-none (λ _ _. true) true _ marks (λ i. rw (none-y cells x0 x1 y0 z0 z1 i))
+
+  -- a plane more, and a column more
+  pub near-more-x : (l w v : List Bool) (x0 k y0 y1 z0 z1 : ℕ) → x0 ≤ k → w ≡ changed (box_near t limit centroids cells x0 k y0 y1 z0 z1) (λ _ _. true) l → v ≡ changed (box_near t limit centroids cells k (k + 1) y0 y1 z0 z1) (λ _ _. true) w
+      → v ≡ changed (box_near t limit centroids cells x0 (k + 1) y0 y1 z0 z1) (λ _ _. true) l
+  near-more-x l w v x0 k y0 y1 z0 z1 le e ev = changed-more (λ _ _. true) true _ _ _ l w v (near-grows-x x0 k y0 y1 z0 z1 le) e ev
+
+  pub near-more-y : (l w v : List Bool) (x0 x1 y0 k z0 z1 : ℕ) → y0 ≤ k → w ≡ changed (box_near t limit centroids cells x0 x1 y0 k z0 z1) (λ _ _. true) l → v ≡ changed (box_near t limit centroids cells x0 x1 k (k + 1) z0 z1) (λ _ _. true) w
+      → v ≡ changed (box_near t limit centroids cells x0 x1 y0 (k + 1) z0 z1) (λ _ _. true) l
+  near-more-y l w v x0 x1 y0 k z0 z1 le e ev = changed-more (λ _ _. true) true _ _ _ l w v (near-grows-y x0 x1 y0 k z0 z1 le) e ev
 
   module _ (order first : List ℕ) (m x y z0 z1 : ℕ) where
     seen-is : (k : ℕ) → get_or order k 0 < length cells → seen_at t limit k x y z0 z1 centroids cells order ≡ box_near t limit centroids cells x (x + 1) y (y + 1) z0 (z1 + 1) (get_or order k 0)

@@ -10,7 +10,7 @@ use Rattle.geom.specs.declared.Vec3.{Vec3}
 use Rattle.faces.specs.Triangle.{dist2_to_triangle}
 use Rattle.lent.specs.Domain.{is_depth}
 use Rattle.mesh.specs.Mesh.{node_of}
-use Rattle.region_cells.specs.declared.Triangle.{Triangle}
+use Rattle.faces.specs.declared.Triangle.{Triangle}
 
 -- a triangle's corners: the first three of its nodes
 unfoldable pub corners_of : List (List Float) → List ℕ → Triangle

@@ -2,11 +2,11 @@
 use Rattle.std.specs.Prelude.{ℕ, ◌+◌, ◌≡◌, Bool, true, ◌&&◌, List, [], ◌∷◌, length, get_or, Float}
 use Rattle.lists.specs.Lists.{tabulate, fold_to, choose}
 use Rattle.geom.specs.declared.Vec3.{Vec3}
-use Rattle.lent.specs.Points.{point}
+use Rattle.geom.specs.Points.{point}
 use Rattle.cells.specs.Cells.{axis, in_box, box_cell, changed}
 use Rattle.cells.specs.Filing.{Filed}
 use Rattle.region_cells.specs.Depth.{corners_of, cell_number, at_most, reaches}
-use Rattle.region_cells.specs.declared.Triangle.{Triangle}
+use Rattle.faces.specs.declared.Triangle.{Triangle}
 
 -- the cell of a middle, by x, y, z
 unfoldable pub cell_about : Float → Vec3 → List ℕ

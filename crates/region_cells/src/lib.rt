@@ -1,46 +1,30 @@
 // Marks by depth (region.rs, `passive`): triangles and the cells of middles, a set's longest side, and whether a triangle is near. Internal: for `region_by_depth`.
 #![tactic(auto)]
 
-ghost use Rattle.std.specs.Prelude.{◌≡◌, [], ◌+◌, ◌≤◌, ◌<◌, length, get_or};
+ghost use Rattle.std.specs.Prelude.{◌≡◌, [], ◌<◌, length, get_or};
 ghost use Rattle.lists.specs.Lists.{tabulate};
-ghost use Rattle.lent.specs.Points.{point};
-ghost use Rattle.mesh.specs.Mesh.{node_at};
+ghost use Rattle.geom.specs.Points.{point};
 ghost use Rattle.region_by_nodes.specs.Nodes.{in_set};
 ghost use Rattle.region_cells.specs.Depth as Depth;
 ghost use Rattle.region_cells.specs.Steps.{cell_about};
 
+use faces::Triangle;
 use geom::Vec3;
+use region_by_nodes::boundary::Boundary;
 
-// A triangle's corners.
-#[derive(Clone, Copy)]
-pub struct Triangle {
-    pub a: Vec3,
-    pub b: Vec3,
-    pub c: Vec3,
-}
-
-// Node n; one that is not there is the origin.
-fn node(nodes: &[[f64; 3]], n: u32) -> Vec3
-    ensures { result ≡ node_at nodes.now n }
-{
-    let i = n as usize;
-    if i < nodes.len() {
-        return lent::point(nodes[i]);
-    }
-    Vec3::new(0.0, 0.0, 0.0)
-}
-
+#[tactic(auto, unfolding(crate::specs::Depth::corners_of))]
 pub fn corners(nodes: &[[f64; 3]], tri: [u32; 6]) -> Triangle
     ensures { result ≡ Depth.corners_of nodes.now tri }
 {
     Triangle {
-        a: node(nodes, tri[0]),
-        b: node(nodes, tri[1]),
-        c: node(nodes, tri[2]),
+        a: mesh::node(nodes, tri[0]),
+        b: mesh::node(nodes, tri[1]),
+        c: mesh::node(nodes, tri[2]),
     }
 }
 
 // The longest of m and the sides of a triangle.
+#[tactic(auto, unfolding(crate::specs::Depth::longer))]
 fn longer(t: Triangle, m: f64) -> f64
     ensures { result ≡ Depth.longer t m }
 {
@@ -51,78 +35,68 @@ fn longer(t: Triangle, m: f64) -> f64
 }
 
 // The longest side of set s.
-fn longest(
-    nodes: &[[f64; 3]],
-    tris: &[[u32; 6]],
-    surfaces: &[u32],
-    starts: &[u32],
-    kept: &[u32],
-    s: usize,
-) -> f64
-    requires { (length tris.now ≤ length surfaces.now) × (s + 1 < length starts.now) }
-    ensures { result ≡ Depth.longest_side nodes.now tris.now (in_set surfaces.now starts.now kept.now s) (length tris.now) }
+#[tactic(auto, unfolding(region_by_nodes::specs::Nodes::in_set, crate::specs::Depth::longest_side, lists::specs::Lists::fold_to, lists::specs::Lists::choose))]
+fn longest(nodes: &[[f64; 3]], b: Boundary, s: usize) -> f64
+    requires { s < length b.depths.now }
+    ensures { result ≡ Depth.longest_side nodes.now b.entry.tris.now (in_set b.entry.surfaces.now b.entry.starts.now b.entry.kept.now s) (length b.entry.tris.now) }
 {
-    let n = tris.len();
     let mut m = 0.0;
-    let mut t = 0usize;
-    while t < n {
-        let tri = tris[t];
-        let surface = surfaces[t];
-        t += 1usize;
-        if region_by_nodes::in_set(starts, kept, s, surface) {
-            m = longer(corners(nodes, tri), m);
+    for (t, tri) in b.tris.iter().enumerate() {
+        if region_by_nodes::in_set(b, s, b.surfaces[t]) {
+            m = longer(corners(nodes, *tri), m);
         }
     }
     m
 }
 
-// The size of set s' cells.
-pub fn cell_size(
-    nodes: &[[f64; 3]],
-    tris: &[[u32; 6]],
-    surfaces: &[u32],
-    starts: &[u32],
-    kept: &[u32],
-    s: usize,
-    depth: f64,
-) -> f64
-    requires { (length tris.now ≤ length surfaces.now) × (s + 1 < length starts.now) }
-    ensures { result ≡ Depth.cell_size nodes.now tris.now (in_set surfaces.now starts.now kept.now s) depth }
+// The size of set s' cells, at a depth.
+#[tactic(auto, unfolding(crate::specs::Depth::cell_size))]
+pub fn cell_size(nodes: &[[f64; 3]], b: Boundary, s: usize, depth: f64) -> f64
+    requires { s < length b.depths.now }
+    ensures { result ≡ Depth.cell_size nodes.now b.entry.tris.now (in_set b.entry.surfaces.now b.entry.starts.now b.entry.kept.now s) depth }
 {
-    ieee::max(depth, longest(nodes, tris, surfaces, starts, kept, s))
+    ieee::max(depth, longest(nodes, b, s))
 }
 
-pub fn cell_number(v: f64, size: f64) -> u64
+#[tactic(auto, unfolding(crate::specs::Depth::cell_number))]
+fn cell_number(v: f64, size: f64) -> u64
     ensures { result ≡ Depth.cell_number v size }
 {
     ieee_whole::floor_at(v / size)
 }
 
+// The cell of a point.
+#[tactic(auto, unfolding(crate::specs::Steps::cell_about))]
+pub fn cell_of(p: Vec3, size: f64) -> [u64; 3]
+    ensures { result ≡ cell_about size p }
+{
+    [
+        cell_number(p.x, size),
+        cell_number(p.y, size),
+        cell_number(p.z, size),
+    ]
+}
+
 // The cells of the middles.
+#[tactic(auto, using(lists::proofs::Filled::stored, lists::proofs::Filled::filled), unfolding(lists::specs::Lists::overwrite))]
 pub fn cells_of(centroids: &[[f64; 3]], size: f64, cells: &mut [[u64; 3]])
     requires { length cells.old ≡ length centroids.now }
     ensures { cells.new ≡ tabulate (λ i. cell_about size (point (get_or centroids.now i []))) (length centroids.now) }
 {
-    let n = centroids.len();
-    let mut i = 0usize;
-    while i < n {
-        let p = centroids[i];
-        cells[i] = [
-            cell_number(p[0], size),
-            cell_number(p[1], size),
-            cell_number(p[2], size),
-        ];
-        i += 1usize;
+    for (i, c) in cells.iter_mut().enumerate() {
+        *c = cell_of(Vec3::from(centroids[i]), size);
     }
 }
 
 // The corners of a triangle's box.
+#[tactic(auto, unfolding(crate::specs::Depth::low_of))]
 pub fn low(t: Triangle) -> Vec3
     ensures { result ≡ Depth.low_of t }
 {
     t.a.min(t.b).min(t.c)
 }
 
+#[tactic(auto, unfolding(crate::specs::Depth::high_of))]
 pub fn high(t: Triangle) -> Vec3
     ensures { result ≡ Depth.high_of t }
 {
@@ -130,8 +104,9 @@ pub fn high(t: Triangle) -> Vec3
 }
 
 // Whether a middle is at most at the limit, a squared distance.
+#[tactic(auto, unfolding(crate::specs::Depth::at_most))]
 pub fn is_near(t: Triangle, limit: f64, p: [f64; 3]) -> bool
     ensures { result ≡ Depth.at_most limit t (point p) }
 {
-    faces::dist2_to_triangle(lent::point(p), t.a, t.b, t.c) <= limit
+    faces::dist2_to_triangle(Vec3::from(p), t.a, t.b, t.c) <= limit
 }

@@ -1,7 +1,7 @@
 -- region.rs, `design`: each element's volume and middle. Definitions only.
 use Rattle.std.specs.Prelude.{ℕ, ◌≡◌, ◌||◌, List, [], ◌∷◌, length, get_or, ltb, Float}
 use Rattle.lists.specs.Lists.{overwrite}
-use Rattle.lent.specs.Points.{stored}
+use Rattle.geom.specs.Points.{stored}
 use Rattle.lent.specs.Domain.{too_many_elements, too_many_nodes, points_bad}
 use Rattle.lent.specs.Refusals.{first_of}
 use Rattle.lent.specs.Lent.{unless}

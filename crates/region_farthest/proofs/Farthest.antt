@@ -8,7 +8,7 @@ use lib.Ieee.{Float}
 use Rattle.lists.specs.Lists.{tabulate, fold_to, any_to, choose, zero64}
 use Rattle.lists.proofs.Laws.{get_or-tabulate, fold_to-keeps, choose-false, fold_to-same}
 use Rattle.geom.specs.declared.Mirror.{Mirror}
-use Rattle.lent.specs.Points.{point}
+use Rattle.geom.specs.Points.{point}
 use Rattle.region_tree.specs.Tree.{Tree}
 use Rattle.region_farthest.specs.Farthest.{faces_of, is_corner, whole_tree, farther, asymmetry_of}
 use Rattle.region_farthest.specs.Steps.{farthest_in}

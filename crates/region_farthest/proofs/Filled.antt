@@ -18,11 +18,6 @@ fill-map f d [] (y ∷ l) e = absurd (omega arith)
 fill-map f d (x ∷ xs) [] e = absurd (omega arith)
 fill-map f d (x ∷ xs) (y ∷ l) e = ap (λ (t : List _). f x ∷ t) (fill-map f d xs l (omega arith))
 
-pub fill-all : {A : Type 0} (f : ℕ → A) (l : List A) → overwrite f (length l) l ≡ tabulate f (length l)
-unfolding overwrite tabulate
-fill-all f [] = refl
-fill-all f (x ∷ l) = ap (λ (t : List _). f zero ∷ t) (fill-all (λ k. f (suc k)) l)
-
 eqb-suc : (a k : ℕ) → eqb (suc a) (suc k) ≡ eqb a k
 eqb-suc a k = go (eqb a k) refl
   where

@@ -8,9 +8,9 @@ use Rattle.ieee_root.specs.Sqrt.{sqrt_of}
 use Rattle.geom.specs.Vectors.{image}
 use Rattle.geom.specs.declared.Vec3.{Vec3}
 use Rattle.geom.specs.declared.Mirror.{Mirror}
-use Rattle.lent.specs.Points.{point}
+use Rattle.geom.specs.Points.{point}
 use Rattle.region_tree.specs.Tree.{Tree, tree_of}
-use Rattle.region_nearest.specs.Nearest.{search_in, unfound}
+use Rattle.region_nearest.specs.Nearest.{search_in, unfound, best_of}
 
 -- ---- the boundary
 
@@ -41,7 +41,7 @@ whole_tree faces = tree_of faces (length faces) (tabulate (λ k. k) (length face
 
 -- the farthest so far, with the corner p: its image's distance from the boundary by the tree's search, which needs none nearer than the farthest so far
 unfoldable pub farther : List (List Float) → Tree → Mirror → Vec3 → Float → Float
-farther faces t m p worst = max_of worst (sqrt_of binary64 (search_in faces (image m p) (mul binary64 worst worst) t unfound).best)
+farther faces t m p worst = max_of worst (sqrt_of binary64 (best_of (search_in faces (image m p) (mul binary64 worst worst) t unfound)))
 
 -- the corners one after another, by number; 0.0 with no triangles
 unfoldable pub asymmetry_of : List (List Float) → List (List ℕ) → Mirror → Float

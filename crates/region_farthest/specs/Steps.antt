@@ -2,7 +2,7 @@
 use Rattle.std.specs.Prelude.{ℕ, Bool, false, List, [], get_or, Float}
 use Rattle.lists.specs.Lists.{fold_to, choose, zero64}
 use Rattle.geom.specs.declared.Mirror.{Mirror}
-use Rattle.lent.specs.Points.{point}
+use Rattle.geom.specs.Points.{point}
 use Rattle.region_tree.specs.Tree.{Tree}
 use Rattle.region_farthest.specs.Farthest.{farther}
 

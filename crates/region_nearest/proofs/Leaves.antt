@@ -16,6 +16,6 @@ module _ (faces : List (List Float)) (p : Vec3) (o : List ℕ) (i : ℕ) (b : Fl
   unfolding least_of
   least_more h = rw (drop-cons o i 0 h, add-one i)
 
-  pub least-all : i ≡ length o → b ≡ least_of faces p b (drop i o)
+  pub least_all : i ≡ length o → b ≡ least_of faces p b (drop i o)
   unfolding least_of
-  least-all h = rw (h, drop-length o)
+  least_all h = rw (h, drop-length o)

@@ -1,12 +1,12 @@
 -- The search through a tree that stands in lists, level by level. Assumes nothing.
 use mathlib.Core.Path.{◌≡◌, refl, sym, ap, ◌∙◌}
-use mathlib.Core.Bool.{Bool, true, false, ◌||◌}
+use mathlib.Core.Bool.{Bool, true, false}
 use mathlib.Core.List.{List, []}
 use Prim.Native.Nat.{ℕ, zero, suc, ◌+◌, ◌-◌, ◌/◌, ◌≤◌, ◌<◌}
 use native.Mathlib.Omega.{arith}
 use lib.Ieee.{Float, le}
 use lib.ListN.{length, get_or, take, drop, length-drop}
-use lib.Seq.{length-take-le, get_or-take, get_or-drop, take_all}
+use lib.Seq.{length-take-le, get_or-take, get_or-drop}
 use Rattle.lists.specs.Lists.{choose}
 use Rattle.lists.proofs.Laws.{choose-true, choose-false}
 use Rattle.geom.specs.declared.Vec3.{Vec3}
@@ -15,12 +15,8 @@ use Rattle.region_tree.specs.declared.Bounds.{Bounds}
 use Rattle.region_tree.specs.Tree.{Tree, leaf, fork, box_of}
 use Rattle.region_tree.specs.Steps.{bounds_at, stored_tree, tree_in}
 use Rattle.region_tree.proofs.Stored.{stored_short, stored-fork, stored_fuel}
-use Rattle.region_nearest.specs.declared.Found.{Found}
-use Rattle.region_nearest.specs.Nearest.{gap_of, least_of, at_leaf, search_in}
-
--- a part up to the end
-pub to_end : {A : Type 0} (n h : ℕ) (l : List A) → length l ≤ n → take (n - h) (drop h l) ≡ drop h l
-to_end n h l e = take_all (n - h) (drop h l) (omega (arith, length-drop h l))
+use Rattle.std.specs.declared.ops.ControlFlow.TheVariants.{Continue, Break}
+use Rattle.region_nearest.specs.Nearest.{Search, gap_of, least_of, then_on, at_leaf, search_in}
 
 box_in : (f : ℕ) (o : List ℕ) (b : List (List Float)) → box_of (stored_tree f o b) ≡ bounds_at (get_or b (length o / 2) [])
 unfolding stored_tree
@@ -74,45 +70,54 @@ module _ (o : List ℕ) (b : List (List Float)) where
       ∙ stored-fork (length o) o b n
       ∙ (λ i. fork (bounds_at (get_or b (length o / 2) [])) (lower i) (upper i))
 
-  module _ (faces : List (List Float)) (p : Vec3) (enough : Float) (s : Found) where
-    passed : Bool
-    unfolding own
-    passed = s.stopped || le s.best (gap_of own p)
+  module _ (faces : List (List Float)) (p : Vec3) (enough : Float) (best : Float) where
+    seek : Tree → Search
+    seek t = search_in faces p enough t best
 
-    seek : Tree → Found
-    seek t = search_in faces p enough t s
-
-    pub passes : (s.stopped || le s.best (gap_of (bounds_at (get_or b (length o / 2) [])) p)) ≡ true → s ≡ search_in faces p enough (tree_in o b) s
+    pub passes : le best (gap_of (bounds_at (get_or b (length o / 2) [])) p) ≡ true → Continue best ≡ search_in faces p enough (tree_in o b) best
     unfolding search_in own seek
     passes e =
         either (length o) 4
-        (λ (n : length o ≤ 4). sym (ap seek (in_leaf n) ∙ choose-true _ s _ e))
-        (λ (n : 4 < length o). sym (ap seek (in-fork n) ∙ choose-true _ s _ e))
+        (λ (n : length o ≤ 4). sym (ap seek (in_leaf n) ∙ choose-true _ (Continue best) _ e))
+        (λ (n : 4 < length o). sym (ap seek (in-fork n) ∙ choose-true _ (Continue best) _ e))
 
-    module _ (e : (s.stopped || le s.best (gap_of (bounds_at (get_or b (length o / 2) [])) p)) ≡ false) where
-      pub at_leaf_lem : length o ≤ 4 → at_leaf faces p enough (least_of faces p s.best o) ≡ search_in faces p enough (tree_in o b) s
+    module _ (e : le best (gap_of (bounds_at (get_or b (length o / 2) [])) p) ≡ false) where
+      pub at_leaf_lem : length o ≤ 4 → at_leaf faces p enough (least_of faces p best o) ≡ search_in faces p enough (tree_in o b) best
       unfolding search_in own seek
-      at_leaf_lem n = sym (ap seek (in_leaf n) ∙ choose-false _ s _ e)
+      at_leaf_lem n = sym (ap seek (in_leaf n) ∙ choose-false _ (Continue best) _ e)
 
       module _ (n : 4 < length o) where
         first : Bool
         first = le (gap_of (bounds_at (get_or b (length o / 2 / 2) [])) p) (gap_of (bounds_at (get_or b (length o / 2 + (length o - length o / 2) / 2) [])) p)
 
-        at_fork : search_in faces p enough (tree_in o b) s
-            ≡ choose first (search_in faces p enough high (search_in faces p enough low s)) (search_in faces p enough low (search_in faces p enough high s))
+        at_fork : search_in faces p enough (tree_in o b) best
+            ≡ choose first (then_on (search_in faces p enough high) (search_in faces p enough low best)) (then_on (search_in faces p enough low) (search_in faces p enough high best))
         unfolding search_in own seek first
         at_fork =
-            ap seek (in-fork n) ∙ choose-false _ s _ e
-            ∙ (λ i. choose (le (gap_of (box-low n i) p) (gap_of (box-high i) p)) (search_in faces p enough high (search_in faces p enough low s)) (search_in faces p enough low (search_in faces p enough high s)))
+            ap seek (in-fork n) ∙ choose-false _ (Continue best) _ e
+            ∙ (λ i. choose (le (gap_of (box-low n i) p) (gap_of (box-high i) p)) (then_on (search_in faces p enough high) (search_in faces p enough low best)) (then_on (search_in faces p enough low) (search_in faces p enough high best)))
 
-        pub low_first : le (gap_of (bounds_at (get_or b (length o / 2 / 2) [])) p) (gap_of (bounds_at (get_or b (length o / 2 + (length o - length o / 2) / 2) [])) p) ≡ true
-            → search_in faces p enough (tree_in (drop (length o / 2) o) (drop (length o / 2) b)) (search_in faces p enough (tree_in (take (length o / 2) o) (take (length o / 2) b)) s)
-            ≡ search_in faces p enough (tree_in o b) s
+        -- the nearer half first: what it gives, and what follows from that
+        pub low_first : (gl gh : Float) → gl ≡ gap_of (bounds_at (get_or b (length o / 2 / 2) [])) p → gh ≡ gap_of (bounds_at (get_or b (length o / 2 + (length o - length o / 2) / 2) [])) p → le gl gh ≡ true
+            → (s r : Search) → s ≡ search_in faces p enough (tree_in (take (length o / 2) o) (take (length o / 2) b)) best
+            → r ≡ then_on (search_in faces p enough (tree_in (drop (length o / 2) o) (drop (length o / 2) b))) s
+            → r ≡ search_in faces p enough (tree_in o b) best
         unfolding low high first
-        low_first t = sym (at_fork ∙ choose-true _ _ _ t)
+        low_first gl gh el eh t s r is next =
+            next ∙ ap (then_on (search_in faces p enough (tree_in (drop (length o / 2) o) (drop (length o / 2) b)))) is ∙ sym (at_fork ∙ choose-true _ _ _ ((λ i. le (sym el i) (sym eh i)) ∙ t))
 
-        pub high-first : le (gap_of (bounds_at (get_or b (length o / 2 / 2) [])) p) (gap_of (bounds_at (get_or b (length o / 2 + (length o - length o / 2) / 2) [])) p) ≡ false
-            → search_in faces p enough (tree_in (take (length o / 2) o) (take (length o / 2) b)) (search_in faces p enough (tree_in (drop (length o / 2) o) (drop (length o / 2) b)) s)
-            ≡ search_in faces p enough (tree_in o b) s
+        pub high-first : (gl gh : Float) → gl ≡ gap_of (bounds_at (get_or b (length o / 2 / 2) [])) p → gh ≡ gap_of (bounds_at (get_or b (length o / 2 + (length o - length o / 2) / 2) [])) p → le gl gh ≡ false
+            → (s r : Search) → s ≡ search_in faces p enough (tree_in (drop (length o / 2) o) (drop (length o / 2) b)) best
+            → r ≡ then_on (search_in faces p enough (tree_in (take (length o / 2) o) (take (length o / 2) b))) s
+            → r ≡ search_in faces p enough (tree_in o b) best
         unfolding low high first
-        high-first t = sym (at_fork ∙ choose-false _ _ _ t)
+        high-first gl gh el eh t s r is next =
+            next ∙ ap (then_on (search_in faces p enough (tree_in (take (length o / 2) o) (take (length o / 2) b)))) is ∙ sym (at_fork ∙ choose-false _ _ _ ((λ i. le (sym el i) (sym eh i)) ∙ t))
+
+pub stops : (next : Float → Search) (s r : Search) (best : Float) → s ≡ Break best → r ≡ Break best → r ≡ then_on next s
+unfolding then_on
+stops next s r best e is = is ∙ sym (ap (then_on next) e)
+
+pub goes-on : (next : Float → Search) (s : Search) (best : Float) → s ≡ Continue best → next best ≡ then_on next s
+unfolding then_on
+goes-on next s best e = sym (ap (then_on next) e)

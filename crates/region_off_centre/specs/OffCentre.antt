@@ -1,5 +1,5 @@
 -- region.rs, `off_centre`, in the Rust's operation order; the plane's normal is used as it is given. Definitions only.
-use Rattle.std.specs.Prelude.{ℕ, true, false, ◌&&◌, List, [], length, get_or, eqb, Float}
+use Rattle.std.specs.Prelude.{ℕ, true, false, ◌&&◌, List, [], length, get_or, eqb, Option, Some, None, Result, Ok, Err, Float}
 use Rattle.std.specs.Float.{inf, binary64}
 use Rattle.std.specs.Float.Ieee.{add, sub, mul, div, neg, le, lt, of_bits}
 use Rattle.lists.specs.Lists.{fold_to, choose, zero64}
@@ -7,10 +7,9 @@ use Rattle.ieee.specs.Basic.{abs_of, min_of, max_of}
 use Rattle.geom.specs.Vectors.{less, dot, two64}
 use Rattle.geom.specs.declared.Vec3.{Vec3}
 use Rattle.geom.specs.declared.Mirror.{Mirror}
-use Rattle.lent.specs.Points.{point, flat}
+use Rattle.geom.specs.Points.{point, flat}
 use Rattle.lent.specs.Domain.{too_many_nodes, points_bad, plane_bad}
-use Rattle.region_off_centre.specs.declared.Balance.{Balance}
-use Rattle.region_off_centre.specs.declared.Balance.TheVariants.{Refused, Even, Reaches}
+use Rattle.region_off_centre.specs.declared.Reaches.{Reaches}
 
 -- 0.1
 abbrev pub tenth64 : Float
@@ -28,11 +27,11 @@ unfoldable pub highest : List (List Float) → Mirror → ℕ → Float
 highest points m n = fold_to (λ k hi. max_of hi (reach_of m (point (get_or points k [])))) (inf true) n
 
 -- hi ≥ lo and |hi + lo|/2 > 0.1·(hi − lo): how far they reach to either side. "No points: `off_centre` gives none", since −∞ is below +∞
-unfoldable pub balance_of : Float → Float → Balance
+unfoldable pub balance_of : Float → Float → Option Reaches
 balance_of lo hi =
     choose (le lo hi && lt (mul binary64 tenth64 (sub binary64 hi lo)) (div binary64 (abs_of (add binary64 hi lo)) two64))
-    (Reaches (max_of hi zero64) (max_of (neg lo) zero64))
-    Even
+    (Some (record { ahead = max_of hi zero64; behind = max_of (neg lo) zero64 }))
+    None
 
 -- 3, 9, 11 in this order, 0 where nothing is refused; the points are nodes
 unfoldable pub refusal_of : List (List Float) → Mirror → ℕ
@@ -42,8 +41,8 @@ refusal_of points m =
     (choose (plane_bad (flat m)) 11 0))
 
 -- the answer, case by case: 01's number, none, or the two reaches
-unfoldable pub off_centre_of : List (List Float) → Mirror → Balance
+unfoldable pub off_centre_of : List (List Float) → Mirror → Result (Option Reaches) ℕ
 off_centre_of points m =
     choose (eqb (refusal_of points m) 0)
-    (balance_of (lowest points m (length points)) (highest points m (length points)))
-    (Refused (refusal_of points m))
+    (Ok (balance_of (lowest points m (length points)) (highest points m (length points))))
+    (Err (refusal_of points m))

@@ -2,46 +2,46 @@
 #![tactic(auto)]
 
 ghost use Rattle.std.specs.Prelude.{◌≡◌};
-ghost use Rattle.lent.specs.Points.{flat};
+ghost use Rattle.geom.specs.Points.{flat};
+ghost use Rattle.refusal.specs.Refusals.{refused, numbered};
 ghost use Rattle.lent.specs.Domain.{plane_bad};
 ghost use Rattle.region_off_centre.specs.OffCentre as Centre;
 
 use geom::{Mirror, Vec3};
+use refusal::Refusal;
 
+// How far points reach to the side that a plane's normal looks to, and to the other.
 #[derive(Clone, Copy)]
-pub enum Balance {
-    Refused(u32),
-    // About even, or no points: the Rust's None.
-    Even,
-    // To the side that the normal looks to, and to the other.
-    Reaches(f64, f64),
+pub struct Reaches {
+    pub ahead: f64,
+    pub behind: f64,
 }
 
 // Whether a plane is refused. Internal: for `region_asymmetry` too.
 pub fn plane_bad(m: Mirror) -> bool
     ensures { result ≡ plane_bad (flat m) }
 {
-    let p = m.point;
-    let n = m.normal;
-    lent::plane_bad([p.x, p.y, p.z, n.x, n.y, n.z])
+    lent::plane_bad(m.into())
 }
 
-fn refusal(points: &[[f64; 3]], mirror: Mirror) -> u32
-    ensures { result ≡ Centre.refusal_of points.now mirror }
+#[tactic(auto, unfolding(crate::specs::OffCentre::refusal_of, lists::specs::Lists::choose))]
+fn check(points: &[[f64; 3]], mirror: Mirror) -> Result<(), Refusal>
+    ensures { refused result ≡ Centre.refusal_of points.now mirror }
 {
     if 1048576 < points.len() {
-        return 3;
+        return Err(Refusal::TooMany);
     }
     if lent::points_bad(points) {
-        return 9;
+        return Err(Refusal::PointOutside);
     }
     if plane_bad(mirror) {
-        return 11;
+        return Err(Refusal::PlaneOutside);
     }
-    0
+    Ok(())
 }
 
 // How far a point is from the plane, along its normal as it is given.
+#[tactic(auto, unfolding(crate::specs::OffCentre::reach_of))]
 fn reach(mirror: Mirror, p: Vec3) -> f64
     ensures { result ≡ Centre.reach_of mirror p }
 {
@@ -50,30 +50,31 @@ fn reach(mirror: Mirror, p: Vec3) -> f64
     p.sub(point).dot(normal)
 }
 
-fn weigh(lo: f64, hi: f64) -> Balance
+#[tactic(auto, unfolding(crate::specs::OffCentre::balance_of, lists::specs::Lists::choose))]
+fn weigh(lo: f64, hi: f64) -> Option<Reaches>
     ensures { result ≡ Centre.balance_of lo hi }
 {
     if (hi >= lo) & (ieee::abs(hi + lo) / 2.0 > 0.1 * (hi - lo)) {
-        return Balance::Reaches(ieee::max(hi, 0.0), ieee::max(-lo, 0.0));
+        return Some(Reaches {
+            ahead: ieee::max(hi, 0.0),
+            behind: ieee::max(-lo, 0.0),
+        });
     }
-    Balance::Even
+    None
 }
 
-pub fn off_centre(points: &[[f64; 3]], mirror: Mirror) -> Balance
-    ensures { result ≡ Centre.off_centre_of points.now mirror }
+// None where the points are about even, or there are none.
+#[tactic(auto, using(refusal::proofs::Numbers::some_number), unfolding(crate::specs::OffCentre::off_centre_of, crate::specs::OffCentre::lowest, crate::specs::OffCentre::highest, lists::specs::Lists::choose, lists::specs::Lists::fold_to))]
+pub fn off_centre(points: &[[f64; 3]], mirror: Mirror) -> Result<Option<Reaches>, Refusal>
+    ensures { numbered result ≡ Centre.off_centre_of points.now mirror }
 {
-    let r = refusal(points, mirror);
-    if r > 0 {
-        return Balance::Refused(r);
-    }
-    let mut lo = 1.0 / 0.0;
-    let mut hi = -1.0 / 0.0;
-    let mut i = 0;
-    while i < points.len() {
-        let d = reach(mirror, lent::point(points[i]));
+    check(points, mirror)?;
+    let mut lo = f64::INFINITY;
+    let mut hi = f64::NEG_INFINITY;
+    for p in points {
+        let d = reach(mirror, Vec3::from(*p));
         lo = ieee::min(lo, d);
         hi = ieee::max(hi, d);
-        i += 1;
     }
-    weigh(lo, hi)
+    Ok(weigh(lo, hi))
 }

@@ -1,26 +1,21 @@
 -- A call that is not refused has few elements and lists that are long enough; and what either outcome leaves. Assumes nothing.
-use mathlib.Core.Path.{◌≡◌, refl, ap, ◌∙◌}
+use mathlib.Core.Path.{◌≡◌, refl, ◌∙◌}
 use mathlib.Core.Bool.{Bool, false}
 use Prim.Native.Nat.{ℕ, ◌+◌, ◌≤◌, ◌<◌}
 use native.Mathlib.Omega.{arith}
 use lib.ListN.{length}
 use lib.Dec.{ltb}
 use borrow.Author.Tests.{ltb-false}
-use Rattle.lists.specs.Lists.{overwrite}
 use Rattle.lists.proofs.Laws.{passes_on, neither}
 use Rattle.region_checks.specs.Boundary as Boundary
-use Rattle.region_passive.specs.Passive.{Problem, Lent, sets_in, passive_at, refusal_of, Marked}
-use Rattle.region_passive_checks.specs.Checks.{too_short, kept_short, refusal_by}
+use Rattle.region_passive.specs.Passive.{Problem, Lent, sets_in, refusal_of, Marked}
+use Rattle.region_passive_checks.specs.Checks.{too_short, kept_short}
 use Rattle.lent.proofs.Lent.{unless-refused, unless-accepted, worked_same, worked-free}
 use Rattle.region_passive.specs.Steps.{Roomy, Past}
 
 module _ (q : Problem) (l : Lent) where
   abbrev short : Bool
   short = too_short (length q.nodes) (length q.tets) (length q.tris) (sets_in q) (length q.surfaces) (length q.starts) (length l.marks) (length l.keep) (length l.centroids) (length l.cells) (length l.order) (length l.place) (length l.first)
-
-  pub refusal_is : (s : Bool) (r : ℕ) → s ≡ short → r ≡ refusal_by (length q.tets) q.nodes q.tris q.starts (length q.kept) q.depths s → r ≡ refusal_of q l
-  unfolding refusal_of
-  refusal_is s r es e = e ∙ ap (refusal_by (length q.tets) q.nodes q.tris q.starts (length q.kept) q.depths) es
 
   -- every list is long enough
   long-enough : short ≡ false
@@ -67,8 +62,8 @@ module _ (q : Problem) (l : Lent) where
         firsts = s.8;
       }
 
-  pub refused : (r : ℕ) → r ≡ refusal_of q l → 0 < r → Marked q l l r
-  refused r e pos =
+  pub refused_lem : (r : ℕ) → r ≡ refusal_of q l → 0 < r → Marked q l l r
+  refused_lem r e pos =
       record {
         refusal = e;
         marks-are = unless-refused r _ _ (λ z. omega arith);
@@ -80,17 +75,15 @@ module _ (q : Problem) (l : Lent) where
         first-left = worked_same r _ l.first;
       }
 
-  pub accepted : (l' : Lent) → 0 ≡ refusal_of q l → l'.marks ≡ overwrite (passive_at q) (length q.tets) l.marks → Past q l l'
-      → length l'.keep ≡ length l.keep → length l'.centroids ≡ length l.centroids → length l'.cells ≡ length l.cells → length l'.order ≡ length l.order → length l'.place ≡ length l.place
-      → length l'.first ≡ length l.first → Marked q l l' 0
-  accepted l' e m p ek em ec eo ep ef =
+  pub accepted : (l' : Lent) → 0 ≡ refusal_of q l → Past q l l' → Marked q l l' 0
+  accepted l' e p =
       record {
         refusal = e;
-        marks-are = m ∙ unless-accepted 0 _ l.marks refl;
-        keep_left = worked-free 0 (length q.nodes) l.keep l'.keep refl (ek, p.keeps);
-        centroids-left = worked-free 0 (length q.tets) l.centroids l'.centroids refl (em, p.middled);
-        cells_left = worked-free 0 (length q.tets) l.cells l'.cells refl (ec, p.celled);
-        order-left = worked-free 0 (length q.tets) l.order l'.order refl (eo, p.orders);
-        place-left = worked-free 0 (length q.tets) l.place l'.place refl (ep, p.places);
-        first-left = worked-free 0 (length q.tets + 1) l.first l'.first refl (ef, p.firsts);
+        marks-are = p.marks-are ∙ unless-accepted 0 _ l.marks refl;
+        keep_left = worked-free 0 (length q.nodes) l.keep l'.keep refl p.keeps;
+        centroids-left = worked-free 0 (length q.tets) l.centroids l'.centroids refl p.middled;
+        cells_left = worked-free 0 (length q.tets) l.cells l'.cells refl p.celled;
+        order-left = worked-free 0 (length q.tets) l.order l'.order refl p.orders;
+        place-left = worked-free 0 (length q.tets) l.place l'.place refl p.places;
+        first-left = worked-free 0 (length q.tets + 1) l.first l'.first refl p.firsts;
       }

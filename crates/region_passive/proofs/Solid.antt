@@ -9,7 +9,7 @@ use lib.Ieee.{Float, nan}
 use Rattle.lists.specs.Lists.{tabulate, overwrite, any_to}
 use Rattle.lists.proofs.Laws.{get_or-tabulate, fold_to-none, fold_to-more, overwrite-is, tabulate-same}
 use Rattle.geom.specs.declared.Vec3.{Vec3}
-use Rattle.lent.specs.Points.{point, stored}
+use Rattle.geom.specs.Points.{point, stored}
 use Rattle.mesh.specs.Mesh.{centroid_of}
 use Rattle.region_by_nodes.specs.Nodes.{in_set, by_nodes}
 use Rattle.region_by_nodes.proofs.Adds.{Adds, choose-adds, fold-adds}

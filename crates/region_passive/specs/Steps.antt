@@ -1,12 +1,13 @@
 -- The parts of the call. No caller must believe this: `Passive` says what comes of it. Definitions only.
-use Rattle.std.specs.Prelude.{ℕ, ◌+◌, ◌≤◌, ◌<◌, ◌≡◌, Bool, List, length, get_or, drop, Float}
+use Rattle.std.specs.Prelude.{ℕ, ◌+◌, ◌≤◌, ◌<◌, ◌≡◌, Bool, List, length, get_or, Float}
 use Rattle.std.specs.Float.{nan}
-use Rattle.lists.specs.Lists.{fold_to, choose}
+use Rattle.lists.specs.Lists.{overwrite, fold_to, choose}
 use Rattle.region_by_nodes.specs.Nodes.{in_set}
 use Rattle.lent.specs.Domain.{is_depth}
+use Rattle.lent.specs.Lent.{Free}
 use Rattle.region_cells.specs.Depth.{cell_size}
 use Rattle.region_cells.specs.Steps.{reached_by}
-use Rattle.region_passive.specs.Passive.{Problem, Lent, sets_in}
+use Rattle.region_passive.specs.Passive.{Problem, Lent, sets_in, passive_at}
 
 -- what the triangles of set s reach is marked, where it has a depth
 unfoldable pub deepened : Problem → List (List Float) → ℕ → List Bool → List Bool
@@ -20,11 +21,9 @@ unfoldable pub deepened_to : Problem → List (List Float) → ℕ → List Bool
 deepened_to q centroids n w = fold_to (deepened q centroids) w n
 
 -- lists for the sets' depths that are as long as needed, for n elements
-pub record Sized (n tris sets surfaces starts marks cells order place first : ℕ) : Type 0 where
+pub record Sized (n marks cells order place first : ℕ) : Type 0 where
   pub some : 0 < n
   pub few : n < 65536
-  pub surfaced : tris ≤ surfaces
-  pub begun : sets < starts
   pub marked : marks ≡ n
   pub celled : cells ≡ n
   pub orders : order ≡ n
@@ -57,11 +56,12 @@ pub record Roomy (q : Problem) (l : Lent) : Type 0 where
   pub places : length q.tets ≤ length l.place
   pub firsts : length q.tets + 1 ≤ length l.first
 
--- the working lists are as lent past the places needed
+-- the elements are marked, and the lists are as lent past the places needed
 pub record Past (q : Problem) (l l' : Lent) : Type 0 where
-  pub keeps : drop (length q.nodes) l'.keep ≡ drop (length q.nodes) l.keep
-  pub middled : drop (length q.tets) l'.centroids ≡ drop (length q.tets) l.centroids
-  pub celled : drop (length q.tets) l'.cells ≡ drop (length q.tets) l.cells
-  pub orders : drop (length q.tets) l'.order ≡ drop (length q.tets) l.order
-  pub places : drop (length q.tets) l'.place ≡ drop (length q.tets) l.place
-  pub firsts : drop (length q.tets + 1) l'.first ≡ drop (length q.tets + 1) l.first
+  pub marks-are : l'.marks ≡ overwrite (passive_at q) (length q.tets) l.marks
+  pub keeps : Free (length q.nodes) l.keep l'.keep
+  pub middled : Free (length q.tets) l.centroids l'.centroids
+  pub celled : Free (length q.tets) l.cells l'.cells
+  pub orders : Free (length q.tets) l.order l'.order
+  pub places : Free (length q.tets) l.place l'.place
+  pub firsts : Free (length q.tets + 1) l.first l'.first

@@ -14,6 +14,6 @@ module _ (faces : List (List Float)) (o : List ℕ) (i : ℕ) (b : Bounds) where
   unfolding bounds_from
   widened_more h = rw (drop-cons o i 0 h, add-one i)
 
-  pub widened-all : i ≡ length o → b ≡ bounds_from faces b (drop i o)
+  pub widened_all : i ≡ length o → b ≡ bounds_from faces b (drop i o)
   unfolding bounds_from
-  widened-all h = rw (h, drop-length o)
+  widened_all h = rw (h, drop-length o)

@@ -1,6 +1,5 @@
 -- The tree in the lists: what a part's build leaves is the tree of its triangles. Assumes nothing.
 use mathlib.Core.Path.{◌≡◌, refl, sym, ap, ◌∙◌}
-use mathlib.Core.Bool.{Bool, true, false}
 use mathlib.Core.List.{List, [], ◌++◌}
 use Prim.Native.Nat.{ℕ, zero, suc, ◌-◌, ◌/◌, ◌≤◌, ◌<◌}
 use native.Mathlib.Nat.{add-zero}
@@ -12,9 +11,8 @@ use borrow.Author.Tests.{le-leb, lt-leb}
 use Rattle.lists.specs.Lists.{choose}
 use Rattle.region_median.specs.Median.{rank_by, parted}
 use Rattle.region_median.proofs.Places.{parted-length, either}
-use Rattle.region_tree.specs.declared.Bounds.{Bounds}
 use Rattle.region_tree.specs.Tree.{leaf, fork, bounds_of, axis_of, keys_along, tree_of}
-use Rattle.region_tree.specs.Steps.{along, stored, bounds_at, stored_tree, tree_in}
+use Rattle.region_tree.specs.Steps.{stored, bounds_at, stored_tree, tree_in}
 
 -- ---- one level of the tree in the lists
 
@@ -181,15 +179,3 @@ module _ (faces : List (List Float)) where
         ∙ (λ i. fork (bounds_at (own i)) (low-is i) (high_is i))
         ∙ sym (tree-fork (length l) l n)
         ∙ tree_fuel (suc (length l)) (length l) l (omega arith) (omega arith)
-
--- the list of keys that an axis picks is the axis's
-pick_keys : (faces : List (List Float)) (t u : Bool)
-    → along (choose t 0 (choose u 1 2)) (keys_along 0 faces) (keys_along 1 faces) (keys_along 2 faces) ≡ keys_along (choose t 0 (choose u 1 2)) faces
-unfolding choose
-pick_keys faces true u = refl
-pick_keys faces false true = refl
-pick_keys faces false false = refl
-
-pub keys-along : (faces : List (List Float)) (box : Bounds) → along (axis_of box) (keys_along 0 faces) (keys_along 1 faces) (keys_along 2 faces) ≡ keys_along (axis_of box) faces
-unfolding axis_of
-keys-along faces box = pick_keys faces _ _

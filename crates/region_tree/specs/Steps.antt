@@ -1,14 +1,10 @@
 -- How the code stores a tree, and what its build asks. No part of what a caller must believe. Definitions only.
-use Rattle.std.specs.Prelude.{ℕ, zero, suc, ◌/◌, ◌≤◌, ◌<◌, ◌≡◌, List, [], ◌∷◌, length, get_or, take, drop, leb, eqb, Float}
+use Rattle.std.specs.Prelude.{ℕ, zero, suc, ◌/◌, ◌≤◌, ◌<◌, ◌≡◌, List, [], ◌∷◌, length, get_or, take, drop, leb, Float}
 use Rattle.std.specs.Float.{nan}
 use Rattle.lists.specs.Lists.{choose}
 use Rattle.geom.specs.Vectors.{vec}
 use Rattle.region_tree.specs.declared.Bounds.{Bounds}
-use Rattle.region_tree.specs.Tree.{Tree, leaf, fork, keys_along}
-
--- which of three lists
-abbrev pub along : {A : Type 0} → ℕ → A → A → A → A
-along a kx ky kz = choose (eqb a 0) kx (choose (eqb a 1) ky kz)
+use Rattle.region_tree.specs.Tree.{Tree, leaf, fork}
 
 -- a box as it is stored
 abbrev pub stored : Bounds → List Float
@@ -29,10 +25,7 @@ abbrev pub tree_in : List ℕ → List (List Float) → Tree
 tree_in o b = stored_tree (length o) o b
 
 -- what `build` asks
-pub record Buildable (faces : List (List Float)) (kx ky kz order scratch : List ℕ) (boxes : List (List Float)) : Type 0 where
+pub record Buildable (order scratch : List ℕ) (boxes : List (List Float)) : Type 0 where
   pub some : 0 < length order
   pub room : length order ≤ length scratch
   pub places : length boxes ≡ length order
-  pub keys-x : kx ≡ keys_along 0 faces
-  pub keys-y : ky ≡ keys_along 1 faces
-  pub keys-z : kz ≡ keys_along 2 faces

@@ -1,28 +1,22 @@
 -- region.rs, `Tree`: boxes within boxes over triangles, each stored as the nine coordinates of its corners. Definitions only.
 use Rattle.std.specs.Prelude.{ℕ, zero, suc, ◌/◌, ◌&&◌, List, [], ◌∷◌, map, length, get_or, take, drop, leb, Float}
-use Rattle.std.specs.Float.{nan, binary64}
+use Rattle.std.specs.Float.{binary64}
 use Rattle.std.specs.Float.Ieee.{le, neg, of_bits}
 use Rattle.lists.specs.Lists.{choose}
 use Rattle.ieee_bits.specs.Bits.{total_key}
 use Rattle.geom.specs.Vectors.{vec, plus, less, scaled, least, greatest}
 use Rattle.geom.specs.declared.Vec3.{Vec3}
+use Rattle.faces.specs.Corners.{corners_of}
+use Rattle.faces.specs.declared.Triangle.{Triangle}
 use Rattle.region_median.specs.Median.{rank_by, parted}
 use Rattle.region_tree.specs.declared.Bounds.{Bounds}
-use Rattle.region_tree.specs.declared.Face.{Face}
+use Rattle.region_tree.specs.declared.Axis.{Axis}
+use Rattle.region_tree.specs.declared.Axis.TheVariants.{X, Y, Z}
 
 -- ---- triangles
 
--- a triangle as it is stored: its corners, coordinate by coordinate
-unfoldable pub corners_of : List Float → Face
-corners_of t =
-    record {
-      a = vec (get_or t 0 nan) (get_or t 1 nan) (get_or t 2 nan);
-      b = vec (get_or t 3 nan) (get_or t 4 nan) (get_or t 5 nan);
-      c = vec (get_or t 6 nan) (get_or t 7 nan) (get_or t 8 nan);
-    }
-
 -- triangle i; one that is not there has no numbers
-unfoldable pub face_at : List (List Float) → ℕ → Face
+unfoldable pub face_at : List (List Float) → ℕ → Triangle
 face_at faces i = corners_of (get_or faces i [])
 
 -- 1.0 / 3.0, and the largest number
@@ -33,23 +27,23 @@ abbrev pub most64 : Float
 most64 = of_bits binary64 0x7fef_ffff_ffff_ffff
 
 -- `middles`: (a + b + c)·(1/3)
-unfoldable pub middle_of : Face → Vec3
+unfoldable pub middle_of : Triangle → Vec3
 middle_of t = scaled (plus (plus t.a t.b) t.c) third64
 
 -- a point's coordinate along an axis
-unfoldable pub coordinate : ℕ → Vec3 → Float
-coordinate zero p = p.x
-coordinate (suc zero) p = p.y
-coordinate (suc (suc a)) p = p.z
+unfoldable pub coordinate : Axis → Vec3 → Float
+coordinate X p = p.x
+coordinate Y p = p.y
+coordinate Z p = p.z
 
 -- 01: "The tree orders by IEEE totalOrder": the keys of all middles along an axis
-unfoldable pub keys_along : ℕ → List (List Float) → List ℕ
+unfoldable pub keys_along : Axis → List (List Float) → List ℕ
 keys_along a faces = map (λ t. total_key (coordinate a (middle_of (corners_of t)))) faces
 
 -- ---- boxes
 
 -- a box that holds a triangle more
-unfoldable pub widened : Bounds → Face → Bounds
+unfoldable pub widened : Bounds → Triangle → Bounds
 widened b t =
     record {
       lo = least (least (least b.lo t.a) t.b) t.c;
@@ -65,12 +59,12 @@ unfoldable pub bounds_of : List (List Float) → List ℕ → Bounds
 bounds_of faces l =
     bounds_from faces (record { lo = vec most64 most64 most64; hi = vec (neg most64) (neg most64) (neg most64) }) l
 
--- the way that a box is longest: 0, 1, 2 for x, y, z; the first of equals
-unfoldable pub axis_of : Bounds → ℕ
+-- the way that a box is longest; the first of equals
+unfoldable pub axis_of : Bounds → Axis
 axis_of b =
     let size = less b.hi b.lo in
-    choose (le size.y size.x && le size.z size.x) 0
-    (choose (le size.z size.y) 1 2)
+    choose (le size.y size.x && le size.z size.x) X
+    (choose (le size.z size.y) Y Z)
 
 -- ---- the tree
 

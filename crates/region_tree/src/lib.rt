@@ -3,10 +3,13 @@
 #![tactic(auto)]
 
 ghost use Rattle.std.specs.Prelude.{◌≡◌, ◌≤◌, ◌<◌, length};
-ghost use Rattle.region_median.specs.Median.{rank_by, parted};
 ghost use Rattle.region_tree.specs.Tree as Tree;
 ghost use Rattle.region_tree.specs.Steps as Steps;
 
+pub mod keyed;
+
+use crate::keyed::Keyed;
+use faces::Triangle;
 use geom::Vec3;
 
 #[derive(Clone, Copy)]
@@ -15,38 +18,47 @@ pub struct Bounds {
     pub hi: Vec3,
 }
 
-// The three corners of a triangle.
-#[derive(Clone, Copy)]
-pub struct Face {
-    pub a: Vec3,
-    pub b: Vec3,
-    pub c: Vec3,
-}
-
-// A triangle as it is stored.
-pub fn corners(t: [f64; 9]) -> Face
-    ensures { result ≡ Tree.corners_of t }
-{
-    Face {
-        a: Vec3::new(t[0], t[1], t[2]),
-        b: Vec3::new(t[3], t[4], t[5]),
-        c: Vec3::new(t[6], t[7], t[8]),
+// A box as it is stored: its two corners.
+impl From<[f64; 6]> for Bounds {
+    fn from(b: [f64; 6]) -> Bounds
+        ensures { result ≡ Steps.bounds_at b }
+    {
+        Bounds {
+            lo: Vec3::new(b[0], b[1], b[2]),
+            hi: Vec3::new(b[3], b[4], b[5]),
+        }
     }
 }
 
+impl From<Bounds> for [f64; 6] {
+    fn from(b: Bounds) -> [f64; 6]
+        ensures { result ≡ Steps.stored b }
+    {
+        [b.lo.x, b.lo.y, b.lo.z, b.hi.x, b.hi.y, b.hi.z]
+    }
+}
+
+#[derive(Clone, Copy)]
+pub enum Axis {
+    X,
+    Y,
+    Z,
+}
+
 // Triangle i; one that is not there has no numbers.
-pub fn face_at(faces: &[[f64; 9]], i: u32) -> Face
+#[tactic(auto, unfolding(crate::specs::Tree::face_at, faces::specs::Corners::corners_of))]
+pub fn face_at(faces: &[[f64; 9]], i: u32) -> Triangle
     ensures { result ≡ Tree.face_at faces.now i }
 {
     let k = i as usize;
     if k < faces.len() {
-        return corners(faces[k]);
+        return Triangle::from(faces[k]);
     }
-    let none = 0.0 / 0.0;
-    corners([none; 9])
+    Triangle::from([f64::NAN; 9])
 }
 
-fn widened(b: Bounds, t: Face) -> Bounds
+#[tactic(auto, unfolding(crate::specs::Tree::widened))]
+fn widened(b: Bounds, t: Triangle) -> Bounds
     ensures { result ≡ Tree.widened b t }
 {
     Bounds {
@@ -56,6 +68,7 @@ fn widened(b: Bounds, t: Face) -> Bounds
 }
 
 // The box of the triangles that the order names.
+#[tactic(auto, using(crate::proofs::Boxes::widened_more, crate::proofs::Boxes::widened_all), unfolding(crate::specs::Tree::bounds_of))]
 fn bounds_of(faces: &[[f64; 9]], order: &[u32]) -> Bounds
     ensures { result ≡ Tree.bounds_of faces.now order.now }
 {
@@ -64,75 +77,43 @@ fn bounds_of(faces: &[[f64; 9]], order: &[u32]) -> Bounds
         lo: Vec3::new(most, most, most),
         hi: Vec3::new(-most, -most, -most),
     };
-    let mut i = 0;
-    while i < order.len() {
-        b = widened(b, face_at(faces, order[i]));
-        i += 1;
+    for i in order {
+        b = widened(b, face_at(faces, *i));
     }
     b
 }
 
-// The way that a box is longest: 0, 1, 2 for x, y, z.
-fn axis(b: Bounds) -> u32
+// The way that a box is longest.
+#[tactic(auto, unfolding(crate::specs::Tree::axis_of, lists::specs::Lists::choose))]
+fn longest(b: Bounds) -> Axis
     ensures { result ≡ Tree.axis_of b }
 {
     let size = b.hi.sub(b.lo);
     if (size.x >= size.y) & (size.x >= size.z) {
-        return 0;
+        return Axis::X;
     }
     if size.y >= size.z {
-        return 1;
+        return Axis::Y;
     }
-    2
-}
-
-// Parts the order at its middle along an axis, by one of three lists of keys.
-fn part_along(a: u32, kx: &[u64], ky: &[u64], kz: &[u64], order: &mut [u32], scratch: &mut [u32])
-    requires { (0 < length order.old) × (length order.old ≤ length scratch.old) }
-    ensures { order.new ≡ parted (rank_by (Steps.along a kx.now ky.now kz.now)) order.old }
-{
-    if a == 0 {
-        region_median::part(kx, order, scratch);
-        return;
-    }
-    if a == 1 {
-        region_median::part(ky, order, scratch);
-        return;
-    }
-    region_median::part(kz, order, scratch);
+    Axis::Z
 }
 
 // Builds the tree of a part of the order: each half is lent on, to be arranged in turn, and the part's box goes to its middle place. That place is
 // the first of the upper half, which needs it for no box of its own.
-pub fn build(
-    faces: &[[f64; 9]],
-    kx: &[u64],
-    ky: &[u64],
-    kz: &[u64],
-    order: &mut [u32],
-    scratch: &mut [u32],
-    boxes: &mut [[f64; 6]],
-)
-    requires { Steps.Buildable faces.now kx.now ky.now kz.now order.old scratch.old boxes.old }
-    ensures { Steps.tree_in order.new boxes.new ≡ Tree.tree_of faces.now (length order.old) order.old }
+pub fn build(keyed: Keyed, order: &mut [u32], scratch: &mut [u32], boxes: &mut [[f64; 6]])
+    requires { Steps.Buildable order.old scratch.old boxes.old }
+    ensures { Steps.tree_in order.new boxes.new ≡ Tree.tree_of keyed.entry.faces.now (length order.old) order.old }
 {
     let n = order.len();
     let h = n / 2;
-    let b = bounds_of(faces, order);
+    let b = bounds_of(keyed.faces, order);
+    let own = <[f64; 6]>::from(b);
     if n <= 4 {
-        boxes[h] = [b.lo.x, b.lo.y, b.lo.z, b.hi.x, b.hi.y, b.hi.z];
+        boxes[h] = own;
         return;
     }
-    part_along(axis(b), kx, ky, kz, order, scratch);
-    build(faces, kx, ky, kz, &mut order[..h], scratch, &mut boxes[..h]);
-    build(
-        faces,
-        kx,
-        ky,
-        kz,
-        &mut order[h..n],
-        scratch,
-        &mut boxes[h..n],
-    );
-    boxes[h] = [b.lo.x, b.lo.y, b.lo.z, b.hi.x, b.hi.y, b.hi.z];
+    region_median::part(keyed.along(longest(b)), order, scratch);
+    build(keyed, &mut order[..h], scratch, &mut boxes[..h]);
+    build(keyed, &mut order[h..], scratch, &mut boxes[h..]);
+    boxes[h] = own;
 }

@@ -1,14 +1,8 @@
 // One case of each leaf: its arguments are read, then what the Rust gave.
 use geom::{Mirror, Vec3};
+use replay_sample::read::point;
 use replay_sample::words::{number, same, word};
 use std::io::Read;
-
-fn point(sample: &mut impl Read) -> Vec3 {
-    let x = number(sample);
-    let y = number(sample);
-    let z = number(sample);
-    Vec3::new(x, y, z)
-}
 
 pub fn sqrt(sample: &mut impl Read) -> bool {
     let x = number(sample);

@@ -10,7 +10,7 @@ mod runs;
 mod tables;
 mod updates;
 
-use replay_sample::tell::Totals;
+use replay_sample::tell::{Totals, differences};
 use replay_sample::words::word;
 use std::io;
 use std::io::Read;
@@ -75,17 +75,6 @@ fn name(function: u64) -> &'static str {
     }
 }
 
-// How many of a section's cases differ.
-fn section(sample: &mut impl Read, function: u64, count: u64) -> u64 {
-    let mut different = 0u64;
-    for _i in 0..count {
-        if !case(sample, function) {
-            different = different.wrapping_add(1);
-        }
-    }
-    different
-}
-
 // Replays one section, writes its line and adds it to the totals.
 fn replayed(
     sample: &mut impl Read,
@@ -94,7 +83,7 @@ fn replayed(
     function: u64,
 ) -> io::Result<Totals> {
     let count = word(sample);
-    let different = section(sample, function, count);
+    let different = differences(sample, count, |sample| case(sample, function));
     out.print(name(function))?;
     t.with(out, count, different)
 }

@@ -1,13 +1,13 @@
 // One case of a tetrahedron, of 10 nodes: the nodes, its ten numbers; then its volume, corner volume and middle, and the nodes' extent.
-use replay_sample::read::{counts, points};
+use replay_sample::read::fill;
 use replay_sample::words::{number, same};
 use std::io::Read;
 
 pub fn tetrahedron(sample: &mut impl Read) -> bool {
     let mut nodes = [[0.0; 3]; 10];
     let mut tet = [0u32; 10];
-    points(sample, &mut nodes);
-    counts(sample, &mut tet);
+    fill(sample, &mut nodes);
+    fill(sample, &mut tet);
     let volume = same(mesh::volume(&nodes, tet), number(sample));
     let corner_volume = same(mesh::corner_volume(&nodes, tet), number(sample));
     let q = mesh::centroid(&nodes, tet);

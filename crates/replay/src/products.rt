@@ -1,5 +1,5 @@
 // One case of each product with the filter's table, of 12 rows and 48 entries: the table's three lists, the list, then what the Rust gave.
-use replay_sample::read::{are, counts, floats};
+use replay_sample::read::{are, fill};
 use std::io::Read;
 
 pub fn apply(sample: &mut impl Read) -> bool {
@@ -8,10 +8,10 @@ pub fn apply(sample: &mut impl Read) -> bool {
     let mut coef = [0.0; 48];
     let mut x = [0.0; 12];
     let mut out = [0.0; 12];
-    counts(sample, &mut starts);
-    counts(sample, &mut near);
-    floats(sample, &mut coef);
-    floats(sample, &mut x);
+    fill(sample, &mut starts);
+    fill(sample, &mut near);
+    fill(sample, &mut coef);
+    fill(sample, &mut x);
     filter_apply::apply(&starts, &near, &coef, &x, &mut out);
     are(sample, &out)
 }
@@ -22,10 +22,10 @@ pub fn back(sample: &mut impl Read) -> bool {
     let mut coef = [0.0; 48];
     let mut g = [0.0; 12];
     let mut out = [0.0; 12];
-    counts(sample, &mut starts);
-    counts(sample, &mut near);
-    floats(sample, &mut coef);
-    floats(sample, &mut g);
+    fill(sample, &mut starts);
+    fill(sample, &mut near);
+    fill(sample, &mut coef);
+    fill(sample, &mut g);
     filter_back::back(&starts, &near, &coef, &g, &mut out);
     are(sample, &out)
 }

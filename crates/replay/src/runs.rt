@@ -1,6 +1,6 @@
 // One case of a whole run, of 8 elements: volumes, middles, marks, the planes, the goal, and what the opening replied; then for each question the levels
 // asked for, the solver's answer, the record that was made and the reply; and of a run that stopped the solid part's work and the densities.
-use replay_sample::read::{are, flags, floats, planes, points};
+use replay_sample::read::{are, fill};
 use replay_sample::words::{number, same, word};
 use run_plain::{Compliances, Heard, Phase, Progress, Reply, Returned, Said, Setting, State};
 use std::io::Read;
@@ -195,7 +195,7 @@ fn turn(
     let mut spare = [0.0; 8];
     let mut dc = [0.0; 8];
     let mut dv = [0.0; 8];
-    floats(sample, &mut energies);
+    fill(sample, &mut energies);
     let returned = t.returned;
     let s = run_answer::answer_core(
         ROOM,
@@ -304,9 +304,9 @@ pub fn unmirrored(sample: &mut impl Read) -> bool {
     let mut volumes = [0.0; 8];
     let mut centroids = [[0.0; 3]; 8];
     let mut passive = [false; 8];
-    floats(sample, &mut volumes);
-    points(sample, &mut centroids);
-    flags(sample, &mut passive);
+    fill(sample, &mut volumes);
+    fill(sample, &mut centroids);
+    fill(sample, &mut passive);
     let none = [[0.0; 6]; 0];
     let goal = goal(sample);
     run(sample, goal, &volumes, &centroids, &passive, &none)
@@ -317,10 +317,10 @@ pub fn mirrored(sample: &mut impl Read) -> bool {
     let mut centroids = [[0.0; 3]; 8];
     let mut passive = [false; 8];
     let mut one = [[0.0; 6]; 1];
-    floats(sample, &mut volumes);
-    points(sample, &mut centroids);
-    flags(sample, &mut passive);
-    planes(sample, &mut one);
+    fill(sample, &mut volumes);
+    fill(sample, &mut centroids);
+    fill(sample, &mut passive);
+    fill(sample, &mut one);
     let goal = goal(sample);
     run(sample, goal, &volumes, &centroids, &passive, &one)
 }

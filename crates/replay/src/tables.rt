@@ -1,6 +1,6 @@
 // One case of a filter's table, of 8 elements: middles, volumes, radius, the planes; then starts, neighbours and coefficients, 64 places each of the
 // last two, zero behind the last row.
-use replay_sample::read::{are, are_counts, floats, planes, points};
+use replay_sample::read::{are, fill};
 use replay_sample::words::number;
 use std::io::Read;
 
@@ -40,8 +40,8 @@ fn built(
         &mut found,
         &mut bits,
     );
-    let all_starts = are_counts(sample, &starts);
-    let all_near = are_counts(sample, &near);
+    let all_starts = are(sample, &starts);
+    let all_near = are(sample, &near);
     let all_coef = are(sample, &coef);
     (refused == 0) & all_starts & all_near & all_coef
 }
@@ -49,8 +49,8 @@ fn built(
 pub fn unmirrored(sample: &mut impl Read) -> bool {
     let mut centroids = [[0.0; 3]; 8];
     let mut volumes = [0.0; 8];
-    points(sample, &mut centroids);
-    floats(sample, &mut volumes);
+    fill(sample, &mut centroids);
+    fill(sample, &mut volumes);
     let radius = number(sample);
     let none = [[0.0; 6]; 0];
     built(sample, &centroids, &volumes, radius, &none)
@@ -60,9 +60,9 @@ pub fn mirrored(sample: &mut impl Read) -> bool {
     let mut centroids = [[0.0; 3]; 8];
     let mut volumes = [0.0; 8];
     let mut two = [[0.0; 6]; 2];
-    points(sample, &mut centroids);
-    floats(sample, &mut volumes);
+    fill(sample, &mut centroids);
+    fill(sample, &mut volumes);
     let radius = number(sample);
-    planes(sample, &mut two);
+    fill(sample, &mut two);
     built(sample, &centroids, &volumes, radius, &two)
 }

@@ -1,7 +1,7 @@
 // One case of an update, of 12 elements and 48 entries: design, slopes of work and volume, marks, the move, target, tolerance, whether it is
 // sharpened with its steepness or the volume held solid, the table, volumes; then how it ended, the passes and the design, as the Rust gave them.
 use oc_kept::Rule;
-use replay_sample::read::{are, counts, flags, floats};
+use replay_sample::read::{are, fill};
 use replay_sample::words::{number, same, word};
 use std::io::Read;
 use topo::Ending;
@@ -36,18 +36,18 @@ pub fn update(sample: &mut impl Read) -> bool {
     let mut design = [0.0; 12];
     let mut gain = [0.0; 12];
     let mut work = [0.0; 12];
-    floats(sample, &mut x);
-    floats(sample, &mut dc);
-    floats(sample, &mut dv);
-    flags(sample, &mut passive);
+    fill(sample, &mut x);
+    fill(sample, &mut dc);
+    fill(sample, &mut dv);
+    fill(sample, &mut passive);
     let m = number(sample);
     let target = number(sample);
     let tolerance = number(sample);
     let rule = rule(sample);
-    counts(sample, &mut starts);
-    counts(sample, &mut near);
-    floats(sample, &mut coef);
-    floats(sample, &mut volumes);
+    fill(sample, &mut starts);
+    fill(sample, &mut near);
+    fill(sample, &mut coef);
+    fill(sample, &mut volumes);
     let r = update::update(
         &x,
         &dc,

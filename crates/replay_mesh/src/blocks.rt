@@ -1,7 +1,7 @@
 // One case of `block`, of at most 2 cells a side: the cells, the size; then how many nodes, tetrahedra and triangles there are, and their lists, of 125, 48 and 48
 // places, zero behind the last.
-use mesh_block::Made;
-use replay_sample::read::{are_counts, are_points, are_tets, are_tris, point};
+use mesh_block::{Counts, Lists};
+use replay_sample::read::{are, point};
 use replay_sample::words::word;
 use std::io::Read;
 
@@ -9,11 +9,13 @@ fn cells(sample: &mut impl Read) -> usize {
     (word(sample) % 3) as usize
 }
 
-fn is_made(sample: &mut impl Read, m: Made) -> bool {
+fn is_made(sample: &mut impl Read, made: Counts) -> bool {
     let nodes = word(sample);
     let tets = word(sample);
     let tris = word(sample);
-    (m.refused == 0) & (m.nodes as u64 == nodes) & (m.tets as u64 == tets) & (m.tris as u64 == tris)
+    (u64::from(made.nodes) == nodes)
+        & (u64::from(made.tets) == tets)
+        & (u64::from(made.tris) == tris)
 }
 
 pub fn block(sample: &mut impl Read) -> bool {
@@ -26,19 +28,24 @@ pub fn block(sample: &mut impl Read) -> bool {
     let mut surfaces = [0u32; 48];
     let mut tris = [[0u32; 6]; 48];
     let mut edges = [0u32; 216];
-    let made = mesh_block::block(
+    let outcome = mesh_block::block(
         [x, y, z],
         size,
-        &mut nodes,
-        &mut tets,
-        &mut surfaces,
-        &mut tris,
-        &mut edges,
+        Lists {
+            nodes: &mut nodes,
+            tets: &mut tets,
+            surfaces: &mut surfaces,
+            tris: &mut tris,
+            edges: &mut edges,
+        },
     );
+    let Ok(made) = outcome else {
+        return false;
+    };
     let counts = is_made(sample, made);
-    let all_nodes = are_points(sample, &nodes);
-    let all_tets = are_tets(sample, &tets);
-    let all_surfaces = are_counts(sample, &surfaces);
-    let all_tris = are_tris(sample, &tris);
+    let all_nodes = are(sample, &nodes);
+    let all_tets = are(sample, &tets);
+    let all_surfaces = are(sample, &surfaces);
+    let all_tris = are(sample, &tris);
     counts & all_nodes & all_tets & all_surfaces & all_tris
 }

@@ -7,7 +7,7 @@ mod boundaries;
 mod designs;
 mod marks;
 
-use replay_sample::tell::Totals;
+use replay_sample::tell::{Totals, differences};
 use replay_sample::words::word;
 use std::io;
 use std::io::Read;
@@ -33,22 +33,11 @@ fn name(function: u64) -> &'static str {
     }
 }
 
-// How many of a section's cases differ.
-fn section(sample: &mut impl Read, function: u64, count: u64) -> u64 {
-    let mut different = 0u64;
-    for _i in 0..count {
-        if !case(sample, function) {
-            different = different.wrapping_add(1);
-        }
-    }
-    different
-}
-
 // Replays the section that comes, writes its line and adds it to the totals.
 fn replayed(sample: &mut impl Read, out: &impl Print, t: Totals) -> io::Result<Totals> {
     let function = word(sample);
     let count = word(sample);
-    let different = section(sample, function, count);
+    let different = differences(sample, count, |sample| case(sample, function));
     out.print(name(function))?;
     t.with(out, count, different)
 }

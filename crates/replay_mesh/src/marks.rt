@@ -1,6 +1,7 @@
 // One case of `passive`, of 45 nodes, 12 tetrahedra and 20 triangles: the nodes, the tetrahedra, the triangles, their surfaces, two held and two loaded nodes, two
 // kept sets (starts, four surfaces, depths); then the marks.
-use replay_sample::read::{are_flags, counts, floats, points, tets, tris};
+use region_passive_checks::{Part, Work};
+use replay_sample::read::{are, fill};
 use std::io::Read;
 
 // The supports, loads and kept sets are read last.
@@ -23,30 +24,32 @@ fn marked(
     let mut order = [0u32; 12];
     let mut place = [0u32; 12];
     let mut first = [0u32; 13];
-    counts(sample, &mut held);
-    counts(sample, &mut loaded);
-    counts(sample, &mut starts);
-    counts(sample, &mut kept);
-    floats(sample, &mut depths);
-    let refused = region_passive::passive(
+    fill(sample, &mut held);
+    fill(sample, &mut loaded);
+    fill(sample, &mut starts);
+    fill(sample, &mut kept);
+    fill(sample, &mut depths);
+    let part = Part {
         nodes,
-        elements,
-        triangles,
+        tets: elements,
+        tris: triangles,
         surfaces,
-        &held,
-        &loaded,
-        &starts,
-        &kept,
-        &depths,
+        held: &held,
+        loaded: &loaded,
+        starts: &starts,
+        kept: &kept,
+        depths: &depths,
+    };
+    let work = Work {
         marks,
-        &mut keep,
-        &mut centroids,
-        &mut cells,
-        &mut order,
-        &mut place,
-        &mut first,
-    );
-    refused == 0
+        keep: &mut keep,
+        centroids: &mut centroids,
+        cells: &mut cells,
+        order: &mut order,
+        place: &mut place,
+        first: &mut first,
+    };
+    region_passive::passive(part, work).is_ok()
 }
 
 pub fn passive(sample: &mut impl Read) -> bool {
@@ -55,11 +58,11 @@ pub fn passive(sample: &mut impl Read) -> bool {
     let mut triangles = [[0u32; 6]; 20];
     let mut surfaces = [0u32; 20];
     let mut marks = [false; 12];
-    points(sample, &mut nodes);
-    tets(sample, &mut elements);
-    tris(sample, &mut triangles);
-    counts(sample, &mut surfaces);
+    fill(sample, &mut nodes);
+    fill(sample, &mut elements);
+    fill(sample, &mut triangles);
+    fill(sample, &mut surfaces);
     let all = marked(sample, &nodes, &elements, &triangles, &surfaces, &mut marks);
-    let as_told = are_flags(sample, &marks);
+    let as_told = are(sample, &marks);
     all & as_told
 }

@@ -1,142 +1,107 @@
-// Lists of the sample: each is read into the whole of a lent list, or compared with one.
+// What stands in a sample: read into the whole of a lent list, or compared with one.
 use crate::words::{number, same, word};
 use geom::Vec3;
 use std::io::Read;
 
+pub trait Recorded: Copy {
+    fn read<R: Read>(sample: &mut R) -> Self;
+
+    // Whether what comes is this.
+    fn is_next<R: Read>(self, sample: &mut R) -> bool;
+}
+
+impl Recorded for f64 {
+    fn read<R: Read>(sample: &mut R) -> f64 {
+        number(sample)
+    }
+
+    fn is_next<R: Read>(self, sample: &mut R) -> bool {
+        same(self, number(sample))
+    }
+}
+
+impl Recorded for u32 {
+    fn read<R: Read>(sample: &mut R) -> u32 {
+        (word(sample) % 0x1_0000_0000) as u32
+    }
+
+    fn is_next<R: Read>(self, sample: &mut R) -> bool {
+        u64::from(self) == word(sample)
+    }
+}
+
+impl Recorded for bool {
+    fn read<R: Read>(sample: &mut R) -> bool {
+        word(sample) != 0
+    }
+
+    fn is_next<R: Read>(self, sample: &mut R) -> bool {
+        self == (word(sample) != 0)
+    }
+}
+
+impl Recorded for [f64; 3] {
+    fn read<R: Read>(sample: &mut R) -> [f64; 3] {
+        let mut numbers = [0.0; 3];
+        fill(sample, &mut numbers);
+        numbers
+    }
+
+    fn is_next<R: Read>(self, sample: &mut R) -> bool {
+        are(sample, &self)
+    }
+}
+
+impl Recorded for [f64; 6] {
+    fn read<R: Read>(sample: &mut R) -> [f64; 6] {
+        let mut numbers = [0.0; 6];
+        fill(sample, &mut numbers);
+        numbers
+    }
+
+    fn is_next<R: Read>(self, sample: &mut R) -> bool {
+        are(sample, &self)
+    }
+}
+
+impl Recorded for [u32; 6] {
+    fn read<R: Read>(sample: &mut R) -> [u32; 6] {
+        let mut counts = [0; 6];
+        fill(sample, &mut counts);
+        counts
+    }
+
+    fn is_next<R: Read>(self, sample: &mut R) -> bool {
+        are(sample, &self)
+    }
+}
+
+impl Recorded for [u32; 10] {
+    fn read<R: Read>(sample: &mut R) -> [u32; 10] {
+        let mut counts = [0; 10];
+        fill(sample, &mut counts);
+        counts
+    }
+
+    fn is_next<R: Read>(self, sample: &mut R) -> bool {
+        are(sample, &self)
+    }
+}
+
+pub fn fill<T: Recorded, R: Read>(sample: &mut R, to: &mut [T]) {
+    for place in to {
+        *place = T::read(sample);
+    }
+}
+
+pub fn are<T: Recorded, R: Read>(sample: &mut R, list: &[T]) -> bool {
+    let mut all = true;
+    for place in list {
+        all = all & place.is_next(sample);
+    }
+    all
+}
+
 pub fn point(sample: &mut impl Read) -> Vec3 {
-    let x = number(sample);
-    let y = number(sample);
-    let z = number(sample);
-    Vec3::new(x, y, z)
-}
-
-pub fn floats(sample: &mut impl Read, to: &mut [f64]) {
-    for place in to {
-        *place = number(sample);
-    }
-}
-
-pub fn counts(sample: &mut impl Read, to: &mut [u32]) {
-    for place in to {
-        *place = (word(sample) % 0x1_0000_0000) as u32;
-    }
-}
-
-pub fn flags(sample: &mut impl Read, to: &mut [bool]) {
-    for place in to {
-        *place = word(sample) != 0;
-    }
-}
-
-pub fn points(sample: &mut impl Read, to: &mut [[f64; 3]]) {
-    for place in to {
-        let x = number(sample);
-        let y = number(sample);
-        let z = number(sample);
-        *place = [x, y, z];
-    }
-}
-
-pub fn planes(sample: &mut impl Read, to: &mut [[f64; 6]]) {
-    for place in to {
-        let x = number(sample);
-        let y = number(sample);
-        let z = number(sample);
-        let a = number(sample);
-        let b = number(sample);
-        let c = number(sample);
-        *place = [x, y, z, a, b, c];
-    }
-}
-
-fn ten(sample: &mut impl Read) -> [u32; 10] {
-    let mut t = [0u32; 10];
-    counts(sample, &mut t);
-    t
-}
-
-pub fn tets(sample: &mut impl Read, to: &mut [[u32; 10]]) {
-    for place in to {
-        *place = ten(sample);
-    }
-}
-
-fn six(sample: &mut impl Read) -> [u32; 6] {
-    let mut t = [0u32; 6];
-    counts(sample, &mut t);
-    t
-}
-
-pub fn tris(sample: &mut impl Read, to: &mut [[u32; 6]]) {
-    for place in to {
-        *place = six(sample);
-    }
-}
-
-// Whether the numbers that come are those of the list.
-pub fn are(sample: &mut impl Read, list: &[f64]) -> bool {
-    let mut all = true;
-    for place in list {
-        all = all & same(*place, number(sample));
-    }
-    all
-}
-
-fn wide(x: u32) -> u64 {
-    x as u64
-}
-
-pub fn are_counts(sample: &mut impl Read, list: &[u32]) -> bool {
-    let mut all = true;
-    for place in list {
-        all = all & (wide(*place) == word(sample));
-    }
-    all
-}
-
-pub fn are_flags(sample: &mut impl Read, list: &[bool]) -> bool {
-    let mut all = true;
-    for place in list {
-        all = all & (*place == (word(sample) != 0));
-    }
-    all
-}
-
-fn is_point(sample: &mut impl Read, p: [f64; 3]) -> bool {
-    let x = same(p[0], number(sample));
-    let y = same(p[1], number(sample));
-    let z = same(p[2], number(sample));
-    x & y & z
-}
-
-pub fn are_points(sample: &mut impl Read, list: &[[f64; 3]]) -> bool {
-    let mut all = true;
-    for place in list {
-        all = all & is_point(sample, *place);
-    }
-    all
-}
-
-fn is_ten(sample: &mut impl Read, t: [u32; 10]) -> bool {
-    are_counts(sample, &t)
-}
-
-pub fn are_tets(sample: &mut impl Read, list: &[[u32; 10]]) -> bool {
-    let mut all = true;
-    for place in list {
-        all = all & is_ten(sample, *place);
-    }
-    all
-}
-
-fn is_six(sample: &mut impl Read, t: [u32; 6]) -> bool {
-    are_counts(sample, &t)
-}
-
-pub fn are_tris(sample: &mut impl Read, list: &[[u32; 6]]) -> bool {
-    let mut all = true;
-    for place in list {
-        all = all & is_six(sample, *place);
-    }
-    all
+    Vec3::from(<[f64; 3]>::read(sample))
 }

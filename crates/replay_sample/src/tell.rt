@@ -1,5 +1,6 @@
 // What is told of a section, and of all: how many cases, and how many differ.
 use std::io;
+use std::io::Read;
 
 #[derive(Clone, Copy)]
 pub struct Totals {
@@ -33,4 +34,17 @@ fn told(out: &impl Print, cases: u64, different: u64) -> io::Result<()> {
 pub fn total(out: &impl Print, t: Totals) -> io::Result<()> {
     out.print("cases")?;
     told(out, t.cases, t.different)
+}
+
+// How many of a section's cases differ: `case` works out the one that comes, and answers whether it is as recorded.
+pub fn differences<R: Read, F: Fn(&mut R) -> bool>(sample: &mut R, count: u64, case: F) -> u64
+    requires { F.IsAlwaysCallable case }
+{
+    let mut different = 0u64;
+    for _i in 0..count {
+        if !case(sample) {
+            different = different.wrapping_add(1);
+        }
+    }
+    different
 }

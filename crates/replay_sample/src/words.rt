@@ -4,22 +4,11 @@ ghost use Rattle.replay_sample.specs.Same.{alike};
 
 use std::io::Read;
 
-fn wide(x: u8) -> u64 {
-    x as u64
-}
-
 // A read that fails counts as the end.
 pub fn word(sample: &mut impl Read) -> u64 {
-    let mut b = [0u8; 8];
-    let _ = sample.read_exact(&mut b);
-    wide(b[0])
-        | (wide(b[1]) << 8)
-        | (wide(b[2]) << 16)
-        | (wide(b[3]) << 24)
-        | (wide(b[4]) << 32)
-        | (wide(b[5]) << 40)
-        | (wide(b[6]) << 48)
-        | (wide(b[7]) << 56)
+    let mut bytes = [0; 8];
+    let _ = sample.read_exact(&mut bytes);
+    u64::from_le_bytes(bytes)
 }
 
 pub fn number(sample: &mut impl Read) -> f64 {

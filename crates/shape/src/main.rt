@@ -6,26 +6,20 @@ ghost use Rattle.shape_report.specs.Report.{text_of};
 ghost use Rattle.shape_report.specs.Steps.{Wrote};
 ghost use Rattle.shape.specs.Shape.{outcome_from};
 
+use refusal::Refusal;
 use std::io;
 use std::io::Read;
 use strip::Job;
+use strip_lists::Lists;
+use strip_read::Lists as Patterns;
 use strip_stream::Reader;
 use topo::{Goal, Iteration};
 
 // What was read of a strip: its reader, and how many of its bytes are kept.
 #[derive(Clone, Copy)]
 struct Input {
-    reader: Reader,
+    reader: Result<Reader, Refusal>,
     at: usize,
-}
-
-fn least(a: usize, b: usize) -> usize
-    ensures { (result ≤ a) × (result ≤ b) }
-{
-    if a < b {
-        return a;
-    }
-    b
 }
 
 // Keeps a part of a strip from place `at` on, as far as there is room. Tells the next place.
@@ -33,12 +27,8 @@ fn keep(kept: &mut [u8], at: usize, part: &[u8]) -> usize
     requires { at ≤ length kept.old }
     ensures { result ≤ length kept.old }
 {
-    let n = least(kept.len() - at, part.len());
-    let mut i = 0usize;
-    while i < n {
-        kept[at + i] = part[i];
-        i += 1usize;
-    }
+    let n = part.len().min(kept.len() - at);
+    kept[at..at + n].copy_from_slice(&part[..n]);
     at + n
 }
 
@@ -47,44 +37,35 @@ fn keep(kept: &mut [u8], at: usize, part: &[u8]) -> usize
 fn read_all(from: &mut impl Read, kept: &mut [u8]) -> Input
     ensures { result.at ≤ length kept.old }
 {
-    let mut reader = strip_stream::begin();
-    let mut at = 0usize;
-    let mut part = [0u8; 65536];
+    let mut reader = Ok(Reader::begin());
+    let mut at = 0;
+    let mut part = [0; 65536];
     for _ in 0..u64::MAX {
         let got = from.read(&mut part).unwrap_or(0);
         if got == 0 {
             break;
         }
-        reader = strip_stream::feed(reader, &part[..got]);
+        reader = match reader {
+            Ok(reader) => reader.feed(&part[..got]),
+            Err(why) => Err(why),
+        };
         at = keep(kept, at, &part[..got]);
     }
     Input { reader, at }
 }
 
 // Loads the job of a strip that is whole and not malformed.
-fn load(
-    kept: &[u8],
-    volumes: &mut [f64],
-    centroids: &mut [[f64; 3]],
-    weights: &mut [f64],
-    passive: &mut [bool],
-    mirrors: &mut [[f64; 6]],
-) -> bool {
-    let mut volume_bits = [0u64; 256];
-    let mut centroid_bits = [[0u64; 3]; 256];
-    let mut weight_bits = [0u64; 256];
-    let mut mirror_bits = [[0u64; 6]; 3];
+fn load(kept: &[u8], passive: &mut [bool], lists: Lists) -> Result<(), Refusal> {
     strip_lists::load(
         kept,
-        &mut volume_bits,
-        &mut centroid_bits,
-        &mut weight_bits,
-        &mut mirror_bits,
-        volumes,
-        centroids,
-        weights,
-        passive,
-        mirrors,
+        Patterns {
+            volumes: &mut [0; 256],
+            centroids: &mut [[0; 3]; 256],
+            weights: &mut [0; 256],
+            passive,
+            mirrors: &mut [[0; 6]; 3],
+        },
+        lists,
     )
 }
 
@@ -165,56 +146,52 @@ fn run(
     )
 }
 
-fn main(rt: HostRuntime) -> io::Result<()> {
-    // the bytes of a strip of 256 elements and three planes: what is past them is fed to the reader and not kept
-    let mut kept = [0u8; 16644];
-    // what a report of 64 rounds and 256 elements takes
-    let mut out = [0u8; 14000];
-    let input = read_all(&mut rt.stdin(), &mut kept);
-    let at = input.at;
-    let answer = strip_stream::finish(input.reader);
-    let number = strip_job::refusal(answer);
-    if number > 0 {
-        let n = shape_report::refused(&mut out, number);
-        return rt.write_all(&out[..n]);
-    }
-    let none = Job {
-        elements: 0,
-        fraction: 0,
-        radius: 0,
-        sharpen: 0,
-        max_iterations: 0,
-        mirrors: 0,
-    };
-    let job = strip_job::job(answer, none);
-    // a job that is not refused has no more than these
-    let n = least(job.elements, 256);
-    let k = least(job.mirrors, 3);
+// Runs the job of the bytes kept of its strip, and writes its text into `out`.
+fn report(job: Job, kept: &[u8], out: &mut [u8]) -> usize
+    ensures { result ≤ length out.old }
+{
     let mut volumes = [0.0; 256];
     let mut centroids = [[0.0; 3]; 256];
     let mut weights = [0.0; 256];
     let mut passive = [false; 256];
     let mut mirrors = [[0.0; 6]; 3];
+    let lists = Lists {
+        volumes: &mut volumes,
+        centroids: &mut centroids,
+        weights: &mut weights,
+        mirrors: &mut mirrors,
+    };
     // A strip that passed so far has at most 16,644 bytes (`reach`), and is kept whole. Were it not, nothing is run.
-    if !load(
-        &kept[..at],
-        &mut volumes,
-        &mut centroids,
-        &mut weights,
-        &mut passive,
-        &mut mirrors,
-    ) {
-        let n = shape_report::refused(&mut out, 14);
-        return rt.write_all(&out[..n]);
+    if load(kept, &mut passive, lists).is_err() {
+        return shape_report::refused(out, u32::from(Refusal::ListTooShort));
     }
-    let end = run(
+    // a job that is admitted has no more than these
+    let n = job.elements.min(256);
+    let k = job.mirrors.min(3);
+    run(
         strip_job::goal(job),
         &volumes[..n],
         &centroids[..n],
         &weights[..n],
         &passive[..n],
         &mirrors[..k],
-        &mut out,
-    );
+        out,
+    )
+}
+
+fn main(rt: HostRuntime) -> io::Result<()> {
+    // the bytes of a strip of 256 elements and three planes: what is past them is fed to the reader and not kept
+    let mut kept = [0; 16644];
+    // what a report of 64 rounds and 256 elements takes
+    let mut out = [0; 14000];
+    let input = read_all(&mut rt.stdin(), &mut kept);
+    let answer = match input.reader {
+        Ok(reader) => reader.finish(),
+        Err(why) => Err(why),
+    };
+    let end = match strip_job::admitted(answer) {
+        Ok(job) => report(job, &kept[..input.at], &mut out),
+        Err(why) => shape_report::refused(&mut out, u32::from(why)),
+    };
     rt.write_all(&out[..end])
 }

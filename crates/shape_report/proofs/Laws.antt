@@ -115,16 +115,3 @@ lines-suc line k (suc i) (x ∷ l) d h =
 pub lines_more : {A : Type 0} (line : ℕ → A → List ℕ) (k i : ℕ) (l : List A) (d : A) → i < length l
     → lines_from line k (take (i + 1) l) ≡ lines_from line k (take i l) ++ line (k + i) (get_or l i d)
 lines_more line k i l d h = ap (λ (j : ℕ). lines_from line k (take j l)) (add-one i) ∙ lines-suc line k i l d h
-
--- a list of so many places has no more to take
-pub take-most : {A : Type 0} (n k : ℕ) (l : List A) → length l ≡ k → take (min n k) l ≡ take n l
-take-most n k l e = go (ltb n k) refl
-  where
-    go : (q : Bool) → ltb n k ≡ q → take (min n k) l ≡ take n l
-    go true h =
-        let f : n < k = ltb-true n k h in
-        let g : min n k ≡ n = omega arith in
-        ap (λ (j : ℕ). take j l) g
-    go false h =
-        let f : k ≤ n = ltb-false n k h in
-        take_all (min n k) l (omega arith) ∙ sym (take_all n l (omega arith))

@@ -4,7 +4,6 @@
 
 mod parts;
 
-ghost use Rattle.std.specs.Prelude.{take};
 ghost use Rattle.shape_report.specs.Report.{text_of, refused as refused_text, ran as ran_text};
 ghost use Rattle.shape_report.specs.Steps.{Wrote};
 
@@ -19,19 +18,12 @@ pub fn refused(out: &mut [u8], number: u32) -> usize
     parts::words(out, b, b"\n")
 }
 
-// A run that stopped: the solid part's work, the first `rounds` records, the stop, and the densities of the last record's round.
-pub fn ran(
-    out: &mut [u8],
-    solid: f64,
-    history: [Iteration; 64],
-    rounds: usize,
-    why: Stop,
-    density: &[f64],
-) -> usize
-    ensures { Wrote (text_of (ran_text solid (take rounds history) why density.now)) 0 out.old out.new result }
+// A run that stopped: the solid part's work, its records, the stop, and the densities of the last record's round.
+pub fn ran(out: &mut [u8], solid: f64, records: &[Iteration], why: Stop, density: &[f64]) -> usize
+    ensures { Wrote (text_of (ran_text solid records.now why density.now)) 0 out.old out.new result }
 {
     let a = parts::solid_line(out, solid);
-    let b = parts::round_lines(out, a, history, rounds);
+    let b = parts::round_lines(out, a, records);
     let c = parts::stop_line(out, b, why);
     parts::element_lines(out, c, density)
 }

@@ -1,5 +1,5 @@
 // A report's numbers and lines, each written from a place on. Below the surface: the place is in the list or at its end.
-ghost use Rattle.std.specs.Prelude.{◌≡◌, ◌≤◌, ◌<◌, min, [], ◌∷◌, length, take};
+ghost use Rattle.std.specs.Prelude.{◌≡◌, ◌≤◌, ◌<◌, [], ◌∷◌, length};
 ghost use Rattle.shape_report.specs.Report.{ascii, digit as digit_of, hex as hex_of, bits_of, next_bits, decimal as decimal_of, solid_line, round_line, stop_name, stop_line, element_line, lines_from};
 ghost use Rattle.shape_report.specs.Steps.{Wrote};
 
@@ -21,22 +21,22 @@ pub fn words(out: &mut [u8], at: usize, text: &[u8]) -> usize
     ensures { Wrote text.now at out.old out.new result }
 {
     let mut next = at;
-    let mut i = 0usize;
-    while i < text.len() {
-        next = byte(out, next, text[i]);
-        i += 1usize;
+    for b in text {
+        next = byte(out, next, *b);
     }
     next
 }
 
+#[tactic(auto, unfolding(lists::specs::Lists::choose))]
 fn digit(d: u64) -> u8
     requires { d < 16 }
     ensures { result ≡ digit_of d }
 {
     if d < 10 {
-        return 48 + d as u8;
+        b'0' + d as u8
+    } else {
+        b'A' - 10 + d as u8
     }
-    55 + d as u8
 }
 
 fn hex(out: &mut [u8], at: usize, k: usize, n: u64) -> usize
@@ -101,26 +101,13 @@ fn round_line(out: &mut [u8], at: usize, r: Iteration) -> usize
     words(out, i, b"\n")
 }
 
-fn at_most_64(n: usize) -> usize
-    ensures { result ≡ min n 64 }
-{
-    if n < 64 {
-        return n;
-    }
-    64
-}
-
-pub fn round_lines(out: &mut [u8], at: usize, history: [Iteration; 64], rounds: usize) -> usize
+pub fn round_lines(out: &mut [u8], at: usize, records: &[Iteration]) -> usize
     requires { at ≤ length out.old }
-    ensures { Wrote (lines_from (λ k e. round_line e) 1 (take rounds history)) at out.old out.new result }
+    ensures { Wrote (lines_from (λ k e. round_line e) 1 records.now) at out.old out.new result }
 {
-    let n = at_most_64(rounds);
     let mut next = at;
-    let mut i = 0usize;
-    while i < n {
-        let entry = history[i];
-        next = round_line(out, next, entry);
-        i += 1usize;
+    for r in records {
+        next = round_line(out, next, *r);
     }
     next
 }
@@ -161,10 +148,8 @@ pub fn element_lines(out: &mut [u8], at: usize, density: &[f64]) -> usize
     ensures { Wrote (lines_from element_line 1 density.now) at out.old out.new result }
 {
     let mut next = at;
-    let mut e = 0usize;
-    while e < density.len() {
-        next = element_line(out, next, e + 1, density[e]);
-        e += 1usize;
+    for (e, x) in density.iter().enumerate() {
+        next = element_line(out, next, e + 1, *x);
     }
     next
 }

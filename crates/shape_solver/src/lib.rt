@@ -5,6 +5,7 @@ ghost use Rattle.std.specs.Prelude.{◌≡◌, length, get_or};
 ghost use Rattle.std.specs.Float.{nan};
 ghost use Rattle.shape_solver.specs.Energies.{energy_of, energies_of};
 
+#[tactic(auto, unfolding(crate::specs::Energies::energy_of))]
 fn energy(weight: f64, density: f64) -> f64
     ensures { result ≡ energy_of weight density }
 {
@@ -15,19 +16,15 @@ fn energy(weight: f64, density: f64) -> f64
 fn place(list: &[f64], e: usize) -> f64
     ensures { result ≡ get_or list.now e nan }
 {
-    if e < list.len() {
-        return list[e];
-    }
-    0.0 / 0.0
+    if e < list.len() { list[e] } else { f64::NAN }
 }
 
 // The energies of the elements at their densities, as many as `energies` has places.
+#[tactic(auto, using(lists::proofs::Filled::stored, lists::proofs::Filled::filled), unfolding(lists::specs::Lists::overwrite, crate::specs::Energies::energies_of))]
 pub fn solve(weights: &[f64], density: &[f64], energies: &mut [f64])
     ensures { energies.new ≡ energies_of weights.now density.now (length energies.old) }
 {
-    let mut e = 0usize;
-    while e < energies.len() {
-        energies[e] = energy(place(weights, e), place(density, e));
-        e += 1usize;
+    for (e, out) in energies.iter_mut().enumerate() {
+        *out = energy(place(weights, e), place(density, e));
     }
 }

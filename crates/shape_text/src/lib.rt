@@ -15,13 +15,10 @@ use shape_calls::Turn;
 use topo::{Goal, Iteration};
 
 // The first n places of a list, or all where it has fewer.
-fn front(list: &[f64], n: usize) -> &[f64]
+fn front<T: Copy>(list: &[T], n: usize) -> &[T]
     ensures { result.now ≡ take n list.now }
 {
-    if n < list.len() {
-        return &list[..n];
-    }
-    list
+    if n < list.len() { &list[..n] } else { list }
 }
 
 fn outcome(t: Turn, last: &[f64], out: &mut [u8]) -> usize
@@ -38,8 +35,7 @@ fn outcome(t: Turn, last: &[f64], out: &mut [u8]) -> usize
         Reply::Stop(why) => shape_report::ran(
             out,
             state.compliances.solid,
-            history,
-            state.progress.rounds,
+            front(&history, state.progress.rounds),
             why,
             front(last, state.setting.elements),
         ),

@@ -8,7 +8,9 @@ use native.Mathlib.Omega.{arith}
 use lib.Dec.{ltb}
 use lib.ListN.{length, get_or, replicate, get_or-replicate, get_or-eq_default}
 use borrow.Author.Tests.{lt-ltb, le-ltb}
-use Rattle.lists.proofs.Laws.{get_or-tabulate, choose-true, choose-false}
+use lib.Seq.{ext_get_or}
+use Rattle.lists.specs.Lists.{tabulate, overwrite}
+use Rattle.lists.proofs.Laws.{length-tabulate, get_or-tabulate, length-overwrite, get_or-overwrite-below, get_or-overwrite-above, choose-true, choose-false}
 use Rattle.lists.proofs.Bools.{le-or-lt}
 use Rattle.shift.specs.declared.Shift.{Shift}
 use Rattle.shift.specs.declared.ShiftBegun.{ShiftBegun}
@@ -25,6 +27,26 @@ pub record Begun (s : Shift) : Type 0 where
 
 zeros : (j : ℕ) → get_or {A = ℕ} (replicate 16 0) j 0 ≡ 0
 zeros j = ⊎_elim (λ (h : 16 ≤ j). get_or-eq_default (replicate 16 0) 0 h) (λ (h : j < 16). get_or-replicate 16 j 0 0 h) (le-or-lt 16 j)
+
+-- what is written before the end of the jobs is all
+pub filled_up : (f : ℕ → ℕ) (n : ℕ) → n ≤ 16 → ((k : ℕ) → n ≤ k → f k ≡ 0) → overwrite f n (replicate 16 0) ≡ tabulate f 16
+filled_up f n few past =
+    ext_get_or 0 (overwrite f n (replicate 16 0)) (tabulate f 16) (length-overwrite f n (replicate 16 0) ∙ sym (length-tabulate f 16)) (λ k h. at k (omega (arith, length-overwrite f n (replicate 16 0))))
+  where
+    at : (k : ℕ) → k < 16 → get_or (overwrite f n (replicate 16 0)) k 0 ≡ get_or (tabulate f 16) k 0
+    at k h =
+        ⊎_elim
+        (λ (p : n ≤ k). get_or-overwrite-above f n (replicate 16 0) k 0 p ∙ zeros k ∙ sym (get_or-tabulate f 16 k 0 h ∙ past k p))
+        (λ (p : k < n). get_or-overwrite-below f n (replicate 16 0) k 0 p h ∙ sym (get_or-tabulate f 16 k 0 h))
+        (le-or-lt n k)
+
+pub share_past : (jobs : List (List ℕ)) (k : ℕ) → length jobs ≤ k → share_of jobs k ≡ 0
+unfolding share_of
+share_past jobs k h = rw (get_or-eq_default jobs [] h)
+
+pub limit_past : (jobs : List (List ℕ)) (k : ℕ) → length jobs ≤ k → limit_of jobs k ≡ 0
+unfolding limit_of
+limit_past jobs k h = rw (get_or-eq_default jobs [] h)
 
 module _ (jobs : List (List ℕ)) (f : Fit jobs) where
   share-is : (j : ℕ) → j < 16 → share_at (fresh jobs) j ≡ share_of jobs j

@@ -1,4 +1,4 @@
--- `Sums` has sums of numbers; `Marks` lists of Bools in which a job is marked; `Turns` a turn over the jobs, and `First` where all turns end; `Tests` what passed tests leave;
+-- `Sums` has sums of numbers; `Marks` lists of Bools in which a job is marked; `Turns` the turns over the jobs, and `First` where all turns end; `Tests` what passed tests leave;
 -- `Replies` each way out of a call; `Calls` what one call does to a shift; `Begins` a shift as it begins; `Shared` what holds of lists of calls.
 pub mod Sums
 pub mod Marks

@@ -10,17 +10,13 @@ use Rattle.lists.proofs.Laws.{choose-true, choose-false}
 use Rattle.shift.specs.declared.Shift.{Shift}
 use Rattle.shift.specs.declared.ShiftBegun.{ShiftBegun}
 use Rattle.shift.specs.declared.ShiftGrant.{ShiftGrant}
-use Rattle.shift.specs.Grants.{share_of, limit_of, granted_at, sum_of, unfit_jobs, fresh, no_shift, begin_of, fails_test, unknown_job, chosen_of, granted_to, refused_with, grant_of}
+use Rattle.shift.specs.Grants.{share_of, limit_of, granted_at, sum_of, unfit_jobs, fresh, begin_of, fails_test, unknown_job, chosen_of, granted_to, refused_with, grant_of}
 
 module _ (jobs : List (List ℕ)) where
-  pub unfit-begun : unfit_jobs jobs ≡ true → ◌≡◌ {A = ShiftBegun} (record { refused = 30; shift = no_shift }) (begin_of jobs)
-  unfolding begin_of
-  unfit-begun e = sym (choose-true _ _ _ e)
-
-  pub begun : (share limit : List ℕ) → unfit_jobs jobs ≡ false → share ≡ tabulate (share_of jobs) 16 → limit ≡ tabulate (limit_of jobs) 16
+  pub begun-fit : (share limit : List ℕ) → unfit_jobs jobs ≡ false → share ≡ tabulate (share_of jobs) 16 → limit ≡ tabulate (limit_of jobs) 16
       → ◌≡◌ {A = ShiftBegun} (record { refused = 0; shift = record { jobs = length jobs; share = share; limit = limit; granted = replicate 16 0 } }) (begin_of jobs)
   unfolding begin_of fresh
-  begun share limit e p q = rw (p, q) (sym (choose-false _ _ _ e))
+  begun-fit share limit e p q = rw (p, q) (sym (choose-false _ _ _ e))
 
 module _ (s : Shift) (named : List ℕ) where
   pub refused_20 : fails_test s ≡ true → refused_with 20 s ≡ grant_of s named

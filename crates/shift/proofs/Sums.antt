@@ -2,7 +2,6 @@
 use mathlib.Core.Path.{◌≡◌, refl, sym, ap, ◌∙◌}
 use mathlib.Core.Logic.{◌⊎◌, inl, inr, ⊎_elim}
 use Prim.Native.Nat.{ℕ, zero, suc, ◌+◌, ◌*◌, ◌≤◌, ◌<◌}
-use native.Mathlib.Numerals.{add-one}
 use native.Mathlib.Nat.{add-mul, mul-add, mul-zero, zero-mul, not-suc-le-zero}
 use native.Mathlib.Omega.{arith}
 use Rattle.lists.proofs.Bools.{eq-or_ne}
@@ -10,14 +9,6 @@ use Rattle.shift.specs.Grants.{sum_of}
 
 pub lt-or-eq : (i n : ℕ) → i < suc n → (i < n) ⊎ (n ≡ i)
 lt-or-eq i n h = ⊎_elim (λ (p : n ≡ i). inr p) (λ (p : n ≡ i → ⊥). inl (omega arith)) (eq-or_ne n i)
-
-pub sum-none : (f : ℕ → ℕ) → sum_of f 0 ≡ 0
-unfolding sum_of
-sum-none f = refl
-
-pub sum_more : (f : ℕ → ℕ) (n : ℕ) → sum_of f n + f n ≡ sum_of f (n + 1)
-unfolding sum_of
-sum_more f n = rw (add-one n)
 
 pub sum-zero : (f : ℕ → ℕ) (n : ℕ) → ((k : ℕ) → k < n → f k ≡ 0) → sum_of f n ≡ 0
 unfolding sum_of

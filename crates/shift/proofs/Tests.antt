@@ -1,12 +1,15 @@
 -- What the tests of a beginning and of a shift leave when they are passed. Assumes nothing.
-use mathlib.Core.Path.{◌≡◌, subst}
+use mathlib.Core.Path.{◌≡◌, refl, subst}
 use mathlib.Core.Bool.{Bool, true, false, not, ◌&&◌, ◌||◌}
-use mathlib.Core.List.{List}
+use mathlib.Core.List.{List, []}
 use Prim.Native.Nat.{ℕ, zero, suc, ◌+◌, ◌≤◌, ◌<◌}
 use native.Mathlib.Numerals.{add-one}
 use native.Mathlib.Omega.{arith}
 use lib.Dec.{ltb, leb, eqb}
-use lib.ListN.{length}
+use lib.ListN.{length, get_or}
+use Rattle.std.specs.List.{list_any}
+use Rattle.std.proofs.lemmas.List.Folds.{list_any_at}
+use Rattle.lists.proofs.Bools.{never}
 use borrow.Author.Tests.{ltb-false, leb-true, eqb-true, not-false, le-ltb}
 use Rattle.lists.specs.Lists.{any_to}
 use Rattle.lists.proofs.Laws.{any_none, any-more, any-not, neither, both}
@@ -32,6 +35,14 @@ in-range share limit e =
       most = leb-true limit 1000000 (all3 (leb 1 share) (leb share 1000) (leb limit 1000000) e).2;
     }
 
+-- a test that no element passes is passed at no index
+none_at : (p : List ℕ → Bool) (xs : List (List ℕ)) → list_any p xs ≡ false → (j : ℕ) → j < length xs → p (get_or xs j []) ≡ false
+none_at p xs e j h = tested (p (get_or xs j [])) refl
+  where
+    tested : (t : Bool) → p (get_or xs j []) ≡ t → t ≡ false
+    tested true q = never (list_any_at p xs j [] h q) e
+    tested false q = refl
+
 -- ---- a beginning
 pub record Fit (jobs : List (List ℕ)) : Type 0 where
   pub one : 1 ≤ length jobs
@@ -39,15 +50,18 @@ pub record Fit (jobs : List (List ℕ)) : Type 0 where
   pub each : (j : ℕ) → j < length jobs → in_range (share_of jobs j) (limit_of jobs j) ≡ true
 
 pub fit : (jobs : List (List ℕ)) → unfit_jobs jobs ≡ false → Fit jobs
-unfolding unfit_jobs
+unfolding unfit_jobs share_of limit_of
 fit jobs e =
-    let out : ℕ → Bool = λ (k : ℕ). not (in_range (share_of jobs k) (limit_of jobs k)) in
-    let parts = none3 (ltb (length jobs) 1) (ltb 16 (length jobs)) (any_to out (length jobs)) e in
+    let out : List ℕ → Bool = λ (job : List ℕ). not (in_range (get_or job 0 0) (get_or job 1 0)) in
+    let parts = none3 (ltb (length jobs) 1) (ltb 16 (length jobs)) (list_any out jobs) e in
     record {
       one = ltb-false (length jobs) 1 parts.0;
       few = ltb-false 16 (length jobs) parts.1;
-      each = λ j h. not-false (in_range (share_of jobs j) (limit_of jobs j)) (any-not out (length jobs) parts.2 j h);
+      each = λ j h. not-false (in_range (share_of jobs j) (limit_of jobs j)) (none_at out jobs parts.2 j h);
     }
+
+pub few_jobs : (jobs : List (List ℕ)) → unfit_jobs jobs ≡ false → length jobs ≤ 16
+few_jobs jobs e = (fit jobs e).few
 
 -- ---- a shift
 pub record Passed (s : Shift) : Type 0 where
@@ -97,6 +111,9 @@ right false share limit granted e =
 
 pub right-at : (s : Shift) → Passed s → (j : ℕ) → j < 16 → Right (share_at s j) (limit_at s j) (granted_at s j)
 right-at s p j h = right (ltb j s.jobs) (share_at s j) (limit_at s j) (granted_at s j) (p.each j h)
+
+pub room : (s : Shift) (j : ℕ) → fails_test s ≡ false → j < 16 → granted_at s j ≤ 1000000
+room s j e h = let r = right-at s (passed s e) j h in omega (arith, r.within, r.most)
 
 -- a waiting job is one of the shift's, so it has a share
 pub has-share : (job : Bool) (share limit granted : ℕ) → wrong_numbers job share limit granted ≡ false → granted < limit → 1 ≤ share

@@ -1,6 +1,10 @@
 -- One solver for up to sixteen jobs: a shift's beginning, and the grant of one question. Definitions only.
-use Rattle.std.specs.Prelude.{Bool, true, false, not, ◌&&◌, ◌||◌, List, [], ℕ, zero, suc, ◌+◌, ◌*◌, eqb, ltb, leb, length, get_or, set, replicate}
+use Rattle.std.specs.Prelude.{Bool, true, false, not, ◌&&◌, ◌||◌, List, [], Option, Some, None, Result, Ok, Err, ℕ, zero, suc, ◌+◌, ◌*◌, eqb, ltb, leb, length, get_or, set, replicate}
+use Rattle.std.specs.List.{list_any}
 use Rattle.lists.specs.Lists.{tabulate, fold_to, any_to, choose}
+use Rattle.refusal.specs.declared.Refusal.{Refusal}
+use Rattle.refusal.specs.Refusals.{number_of}
+use Rattle.shift.specs.declared.checks.Job.{Job}
 use Rattle.shift.specs.declared.Shift.{Shift}
 use Rattle.shift.specs.declared.ShiftBegun.{ShiftBegun}
 use Rattle.shift.specs.declared.ShiftGrant.{ShiftGrant}
@@ -14,6 +18,9 @@ limit_at s j = get_or s.limit j 0
 
 abbrev pub granted_at : Shift → ℕ → ℕ
 granted_at s j = get_or s.granted j 0
+
+abbrev pub job_at : Shift → ℕ → Job
+job_at s j = record { share = share_at s j; limit = limit_at s j; granted = granted_at s j }
 
 -- f 0 + f 1 .. + f (n - 1)
 unfoldable pub sum_of : (ℕ → ℕ) → ℕ → ℕ
@@ -33,7 +40,7 @@ limit_of jobs j = get_or (get_or jobs j []) 1 0
 
 -- "30, kept, for more than sixteen jobs or none, or a share, limit [..] out of range"
 unfoldable pub unfit_jobs : List (List ℕ) → Bool
-unfit_jobs jobs = ltb (length jobs) 1 || ltb 16 (length jobs) || any_to (λ j. not (in_range (share_of jobs j) (limit_of jobs j))) (length jobs)
+unfit_jobs jobs = ltb (length jobs) 1 || ltb 16 (length jobs) || list_any (λ job. not (in_range (get_or job 0 0) (get_or job 1 0))) jobs
 
 -- "All counts begin a shift at 0."
 unfoldable pub fresh : List (List ℕ) → Shift
@@ -42,6 +49,11 @@ fresh jobs = record { jobs = length jobs; share = tabulate (share_of jobs) 16; l
 -- no shift
 unfoldable pub no_shift : Shift
 no_shift = record { jobs = 0; share = replicate 16 0; limit = replicate 16 0; granted = replicate 16 0 }
+
+-- what C is told of a beginning
+abbrev pub begun : Result Shift Refusal → ShiftBegun
+begun (Ok s) = record { refused = 0; shift = s }
+begun (Err r) = record { refused = number_of r; shift = no_shift }
 
 unfoldable pub begin_of : List (List ℕ) → ShiftBegun
 begin_of jobs = choose (unfit_jobs jobs) (record { refused = 30; shift = no_shift }) (record { refused = 0; shift = fresh jobs })
@@ -60,7 +72,7 @@ fails_test s = ltb s.jobs 1 || ltb 16 s.jobs || any_to (wrong_at s) 16 || ltb 10
 -- ---- a grant
 -- 30: a "job number out of range"
 unfoldable pub unknown_job : ℕ → List ℕ → Bool
-unknown_job jobs named = any_to (λ k. leb jobs (get_or named k 0)) (length named)
+unknown_job jobs named = list_any (λ job. leb jobs job) named
 
 unfoldable pub is_named : List ℕ → ℕ → Bool
 is_named named j = any_to (λ k. eqb (get_or named k 0) j) (length named)
@@ -77,6 +89,11 @@ sooner granted-a share-a granted-b share-b = ltb ((granted-a + 1) * share-b) ((g
 unfoldable pub turn : Shift → (ℕ → Bool) → ℕ → ℕ → ℕ
 turn s named j best = choose (waits s named j && (leb 16 best || sooner (granted_at s j) (share_at s j) (granted_at s best) (share_at s best))) j best
 
+-- nobody's place
+abbrev pub place_of : Option ℕ → ℕ
+place_of None = 16
+place_of (Some j) = j
+
 -- "the waiting job with the smallest (granted + 1)/share [..] the lowest job on a tie"
 unfoldable pub chosen_of : Shift → List ℕ → ℕ
 chosen_of s named = fold_to (turn s (is_named named)) 16 16
@@ -87,6 +104,11 @@ granted_to s j = record { jobs = s.jobs; share = s.share; limit = s.limit; grant
 
 abbrev pub refused_with : ℕ → Shift → ShiftGrant
 refused_with number s = record { refused = number; job = 0; shift = s }
+
+-- what C is told of a grant, and of the shift that it leaves
+abbrev pub granted_by : Result ℕ Refusal → Shift → ShiftGrant
+granted_by (Ok j) s = record { refused = 0; job = j; shift = s }
+granted_by (Err r) s = refused_with (number_of r) s
 
 -- "20, kept, first [..] 30, kept [..] after it 31, kept, when no job waits or the shift is used up"
 unfoldable pub grant_of : Shift → List ℕ → ShiftGrant

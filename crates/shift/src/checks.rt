@@ -1,103 +1,92 @@
 // What a shift's beginning and a grant are refused for.
-ghost use Rattle.std.specs.Prelude.{◌≡◌, ◌<◌, get_or};
-ghost use Rattle.shift.specs.Grants.{in_range, share_of, limit_of, unfit_jobs, wrong_numbers, wrong_at, sum_of, fails_test, unknown_job};
+ghost use Rattle.std.specs.Prelude.{◌≡◌, ◌<◌, not, get_or};
+ghost use Rattle.std.specs.List.{list_any};
+ghost use Rattle.shift.specs.Grants.{in_range, job_at, granted_at, unfit_jobs, wrong_numbers, sum_of, fails_test, unknown_job};
 
 use crate::Shift;
+
+// A place's numbers, of a job or past the jobs.
+#[derive(Clone, Copy)]
+pub struct Job {
+    pub share: u32,
+    pub limit: u32,
+    pub granted: u32,
+}
 
 pub fn in_range(share: u32, limit: u32) -> bool
     ensures { result ≡ in_range share limit }
 {
-    (1 <= share) & (share <= 1_000) & (limit <= 1_000_000)
+    (1..=1_000).contains(&share) && limit <= 1_000_000
 }
 
-// A job's share, and its limit; 0 past the list's end.
-pub fn share_of(jobs: &[[u32; 2]], j: usize) -> u32
-    ensures { result ≡ share_of jobs.now j }
+fn any_unfit(jobs: &[[u32; 2]]) -> bool
+    ensures { result ≡ list_any (λ job. not (in_range (get_or job 0 0) (get_or job 1 0))) jobs.now }
 {
-    if j < jobs.len() {
-        let pair = jobs[j];
-        return pair[0];
-    }
-    0
-}
-
-pub fn limit_of(jobs: &[[u32; 2]], j: usize) -> u32
-    ensures { result ≡ limit_of jobs.now j }
-{
-    if j < jobs.len() {
-        let pair = jobs[j];
-        return pair[1];
-    }
-    0
+    jobs.iter().any(|job| !in_range(job[0], job[1]))
 }
 
 // 30 of a beginning.
+#[tactic(auto, unfolding(crate::specs::Grants::unfit_jobs))]
 pub fn unfit(jobs: &[[u32; 2]]) -> bool
     ensures { result ≡ unfit_jobs jobs.now }
 {
-    let mut bad = false;
-    let mut i = 0usize;
-    while i < jobs.len() {
-        bad = bad | !in_range(share_of(jobs, i), limit_of(jobs, i));
-        i += 1usize;
-    }
-    (jobs.len() < 1) | (16 < jobs.len()) | bad
-}
-
-// Whether the numbers at a place, of a job or past the jobs, are no shift's.
-fn wrong(job: bool, share: u32, limit: u32, granted: u32) -> bool
-    ensures { result ≡ wrong_numbers job share limit granted }
-{
-    if job {
-        return !in_range(share, limit) | (limit < granted);
-    }
-    !((share == 0) & (limit == 0) & (granted == 0))
-}
-
-fn wide(x: u32) -> u64
-    ensures { (result ≡ x) × (result < 4294967296) }
-{
-    x as u64
-}
-
-pub fn total(granted: [u32; 16]) -> u64
-    ensures { result ≡ sum_of (λ j. get_or granted j 0) 16 }
-{
-    let mut t = 0u64;
-    let mut i = 0usize;
-    while i < 16 {
-        t = t + wide(granted[i]);
-        i += 1usize;
-    }
-    t
-}
-
-// 20's test.
-pub fn fails(shift: Shift) -> bool
-    ensures { result ≡ fails_test shift }
-{
-    let jobs = shift.jobs;
-    let share = shift.share;
-    let limit = shift.limit;
-    let granted = shift.granted;
-    let mut bad = false;
-    let mut i = 0usize;
-    while i < 16 {
-        bad = bad | wrong((i as u32) < jobs, share[i], limit[i], granted[i]);
-        i += 1usize;
-    }
-    (jobs < 1) | (16 < jobs) | bad | (1_000_000 < total(granted))
+    jobs.is_empty() || 16 < jobs.len() || any_unfit(jobs)
 }
 
 // 30 of a grant.
+#[tactic(auto, unfolding(crate::specs::Grants::unknown_job))]
 pub fn unknown(jobs: u32, named: &[u32]) -> bool
     ensures { result ≡ unknown_job jobs named.now }
 {
-    let mut bad = false;
-    let mut i = 0usize;
-    while i < named.len() {
-        bad = bad | (jobs <= named[i]);
-        i += 1usize;
+    named.iter().any(|job| jobs <= *job)
+}
+
+impl Job {
+    // Whether the numbers are no shift's, at the place of a job or past the jobs.
+    #[tactic(auto, unfolding(crate::specs::Grants::wrong_numbers))]
+    fn is_wrong(self, listed: bool) -> bool
+        ensures { result ≡ wrong_numbers listed self.share self.limit self.granted }
+    {
+        if listed {
+            return !in_range(self.share, self.limit) || self.limit < self.granted;
+        }
+        self.share != 0 || self.limit != 0 || self.granted != 0
     }
-    bad
+}
+
+impl Shift {
+    pub fn job(&self, j: usize) -> Job
+        requires { j < 16 }
+        ensures { result ≡ job_at self.now j }
+    {
+        Job {
+            share: self.share[j],
+            limit: self.limit[j],
+            granted: self.granted[j],
+        }
+    }
+
+    // The questions granted so far.
+    #[tactic(auto, unfolding(crate::specs::Grants::sum_of))]
+    pub fn total(&self) -> u64
+        ensures { result ≡ sum_of (granted_at self.now) 16 }
+    {
+        let mut total = 0;
+        for granted in self.granted {
+            total += u64::from(granted);
+        }
+        total
+    }
+
+    // 20's test.
+    #[tactic(auto, unfolding(crate::specs::Grants::fails_test, lists::specs::Lists::any_to))]
+    pub fn fails(&self) -> bool
+        ensures { result ≡ fails_test self.now }
+    {
+        let mut bad = false;
+        for j in 0..16u32 {
+            bad |= self.job(j as usize).is_wrong(j < self.jobs);
+        }
+        self.jobs < 1 || 16 < self.jobs || bad || 1_000_000 < self.total()
+    }
 }

@@ -5,9 +5,12 @@ mod checks;
 mod choice;
 
 ghost use Rattle.std.specs.Prelude.{◌≡◌};
-ghost use Rattle.shift.specs.Grants.{begin_of, grant_of};
+ghost use Rattle.shift.specs.Grants.{begin_of, grant_of, begun, granted_by};
 
-// What goes by value from call to call: the jobs' numbers stand at their places, and zeros past them.
+use refusal::Refusal;
+
+// What goes from call to call: the jobs' numbers stand at their places, and zeros past them.
+// Stays lists beside a count, since the C interface lays it out so.
 #[repr(C)]
 #[derive(Clone, Copy)]
 pub struct Shift {
@@ -20,6 +23,8 @@ pub struct Shift {
     pub granted: [u32; 16],
 }
 
+// What C is told of a beginning.
+// Stays a number beside the shift, since the C interface lays it out so.
 #[repr(C)]
 #[derive(Clone, Copy)]
 pub struct ShiftBegun {
@@ -29,6 +34,28 @@ pub struct ShiftBegun {
     pub shift: Shift,
 }
 
+impl From<Result<Shift, Refusal>> for ShiftBegun {
+    #[tactic(auto, unfolding(crate::specs::Grants::no_shift))]
+    fn from(outcome: Result<Shift, Refusal>) -> ShiftBegun
+        ensures { result ≡ begun outcome }
+    {
+        match outcome {
+            Ok(shift) => ShiftBegun { refused: 0, shift },
+            Err(why) => ShiftBegun {
+                refused: u32::from(why),
+                shift: Shift {
+                    jobs: 0,
+                    share: [0; 16],
+                    limit: [0; 16],
+                    granted: [0; 16],
+                },
+            },
+        }
+    }
+}
+
+// What C is told of a grant.
+// Stays a number beside the job, since the C interface lays it out so.
 #[repr(C)]
 #[derive(Clone, Copy)]
 pub struct ShiftGrant {
@@ -40,82 +67,67 @@ pub struct ShiftGrant {
     pub shift: Shift,
 }
 
-// A shift of jobs with these shares and limits.
-pub fn begin(jobs: &[[u32; 2]]) -> ShiftBegun
-    ensures { result ≡ begin_of jobs.now }
-{
-    let mut share = [0u32; 16];
-    let mut limit = [0u32; 16];
-    let granted = [0u32; 16];
-    if checks::unfit(jobs) {
-        return ShiftBegun {
-            refused: 30,
-            shift: Shift {
-                jobs: 0,
-                share,
-                limit,
-                granted,
+impl ShiftGrant {
+    // Of a grant's outcome and the shift that it left.
+    pub fn new(outcome: Result<u32, Refusal>, shift: Shift) -> ShiftGrant
+        ensures { result ≡ granted_by outcome shift }
+    {
+        match outcome {
+            Ok(job) => ShiftGrant {
+                refused: 0,
+                job,
+                shift,
             },
-        };
-    }
-    let mut i = 0usize;
-    while i < 16 {
-        share[i] = checks::share_of(jobs, i);
-        limit[i] = checks::limit_of(jobs, i);
-        i += 1usize;
-    }
-    let count = jobs.len() as u32;
-    ShiftBegun {
-        refused: 0,
-        shift: Shift {
-            jobs: count,
-            share,
-            limit,
-            granted,
-        },
+            Err(why) => ShiftGrant {
+                refused: u32::from(why),
+                job: 0,
+                shift,
+            },
+        }
     }
 }
 
-// The next question goes to one of the jobs named.
-pub fn grant(shift: Shift, named: &[u32]) -> ShiftGrant
-    ensures { result ≡ grant_of shift named.now }
-{
-    if checks::fails(shift) {
-        return ShiftGrant {
-            refused: 20,
-            job: 0,
-            shift,
-        };
-    }
-    if checks::unknown(shift.jobs, named) {
-        return ShiftGrant {
-            refused: 30,
-            job: 0,
-            shift,
-        };
-    }
-    let mut granted = shift.granted;
-    let total = checks::total(granted);
-    let job = choice::chosen(shift, choice::marked(named));
-    let nobody = (16usize <= job) | (total == 1_000_000u64);
-    if nobody {
-        return ShiftGrant {
-            refused: 31,
-            job: 0,
-            shift,
-        };
-    }
-    granted[job] = granted[job] + 1u32;
-    let share = shift.share;
-    let limit = shift.limit;
-    ShiftGrant {
-        refused: 0,
-        job: job as u32,
-        shift: Shift {
-            jobs: shift.jobs,
+impl Shift {
+    // A shift of jobs with these shares and limits.
+    #[tactic(auto, using(crate::proofs::Tests::few_jobs, lists::proofs::Filled::stored), unfolding(crate::specs::Grants::begin_of, crate::specs::Grants::no_shift, crate::specs::Grants::share_of, crate::specs::Grants::limit_of, lists::specs::Lists::choose, lists::specs::Lists::overwrite))]
+    pub fn begin(jobs: &[[u32; 2]]) -> Result<Shift, Refusal>
+        ensures { begun result ≡ begin_of jobs.now }
+    {
+        if checks::unfit(jobs) {
+            return Err(Refusal::ShiftOutside);
+        }
+        let mut share = [0; 16];
+        let mut limit = [0; 16];
+        for (j, job) in jobs.iter().enumerate() {
+            share[j] = job[0];
+            limit[j] = job[1];
+        }
+        Ok(Shift {
+            jobs: jobs.len() as u32,
             share,
             limit,
-            granted,
-        },
+            granted: [0; 16],
+        })
+    }
+
+    // The next question goes to one of the jobs named, which is told. A shift that is refused is left as it was.
+    #[tactic(auto, using(crate::proofs::Tests::room), unfolding(crate::specs::Grants::grant_of, crate::specs::Grants::granted_to, lists::specs::Lists::choose))]
+    pub fn grant(&mut self, named: &[u32]) -> Result<u32, Refusal>
+        ensures { granted_by result self.new ≡ grant_of self.old named.now }
+    {
+        if self.fails() {
+            return Err(Refusal::OutOfTurn);
+        }
+        if checks::unknown(self.jobs, named) {
+            return Err(Refusal::ShiftOutside);
+        }
+        let Some(job) = self.chosen(named) else {
+            return Err(Refusal::NoneWaiting);
+        };
+        if self.total() == 1_000_000 {
+            return Err(Refusal::NoneWaiting);
+        }
+        self.granted[job] += 1;
+        Ok(job as u32)
     }
 }

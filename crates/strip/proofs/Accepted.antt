@@ -9,7 +9,9 @@ use lib.Dec.{eqb}
 use lib.ListN.{length}
 use Rattle.lists.proofs.Laws.{choose-true, choose-false, any-not, both}
 use Rattle.lists.specs.Lists.{choose, any_to}
-use Rattle.strip.specs.declared.Answer.TheVariants.{Read, Refused}
+use Rattle.std.specs.Prelude.{Ok, Err}
+use Rattle.refusal.specs.declared.Refusal.{Refusal}
+use Rattle.refusal.specs.declared.Refusal.TheVariants.{StripMalformed}
 use Rattle.strip.specs.declared.Job.{Job}
 use Rattle.strip.specs.Strip.{kind_of, head_at, place_at, stands, misplaced, word_at, words_of, elements_of, mirrors_of, job_of, accepted, check_strip}
 
@@ -24,31 +26,31 @@ accepted-places bytes e = not-true _ (both (eqb (length bytes) (4 * words_of (el
 
 module _ (bytes : List ℕ) where
   -- a strip is refused by 22 alone
-  pub check-refused : (number : ℕ) → check_strip bytes ≡ Refused number → (accepted bytes ≡ false) × (number ≡ 22)
+  pub check-refused : (why : Refusal) → check_strip bytes ≡ Err why → (accepted bytes ≡ false) × (why ≡ StripMalformed)
   unfolding check_strip
-  check-refused number e = go (accepted bytes) refl
+  check-refused why e = go (accepted bytes) refl
     where
-      go : (t : Bool) → accepted bytes ≡ t → (accepted bytes ≡ false) × (number ≡ 22)
-      go false q = (q, cc (choose-false (accepted bytes) (Read (job_of (word_at bytes))) (Refused 22) q))
+      go : (t : Bool) → accepted bytes ≡ t → (accepted bytes ≡ false) × (why ≡ StripMalformed)
+      go false q = (q, cc (choose-false (accepted bytes) (Ok (job_of (word_at bytes))) (Err StripMalformed) q))
       go true q =
-          let z : ◌≡◌ {A = ℕ} 0 1 = cc (choose-true (accepted bytes) (Read (job_of (word_at bytes))) (Refused 22) q) in absurd (omega arith)
+          let z : ◌≡◌ {A = ℕ} 0 1 = cc (choose-true (accepted bytes) (Ok (job_of (word_at bytes))) (Err StripMalformed) q) in absurd (omega arith)
 
-  pub check-read : (job : Job) → check_strip bytes ≡ Read job → (accepted bytes ≡ true) × (job ≡ job_of (word_at bytes))
+  pub check-read : (job : Job) → check_strip bytes ≡ Ok job → (accepted bytes ≡ true) × (job ≡ job_of (word_at bytes))
   unfolding check_strip
   check-read job e = go (accepted bytes) refl
     where
       go : (t : Bool) → accepted bytes ≡ t → (accepted bytes ≡ true) × (job ≡ job_of (word_at bytes))
-      go true q = (q, cc (choose-true (accepted bytes) (Read (job_of (word_at bytes))) (Refused 22) q))
+      go true q = (q, cc (choose-true (accepted bytes) (Ok (job_of (word_at bytes))) (Err StripMalformed) q))
       go false q =
-          let z : ◌≡◌ {A = ℕ} 0 1 = cc (choose-false (accepted bytes) (Read (job_of (word_at bytes))) (Refused 22) q) in absurd (omega arith)
+          let z : ◌≡◌ {A = ℕ} 0 1 = cc (choose-false (accepted bytes) (Ok (job_of (word_at bytes))) (Err StripMalformed) q) in absurd (omega arith)
 
   -- the counts of the job are those of the strip
-  pub counts : (job : Job) → check_strip bytes ≡ Read job → (job.elements ≡ elements_of bytes) × (job.mirrors ≡ mirrors_of bytes)
+  pub counts : (job : Job) → check_strip bytes ≡ Ok job → (job.elements ≡ elements_of bytes) × (job.mirrors ≡ mirrors_of bytes)
   unfolding job_of
   counts job e = (ap (λ (j : Job). j.elements) (check-read job e).1, ap (λ (j : Job). j.mirrors) (check-read job e).1)
 
   -- the strip's length goes by the job's counts
-  pub sized : (job : Job) → check_strip bytes ≡ Read job → length bytes ≡ 4 * words_of job.elements job.mirrors
+  pub sized : (job : Job) → check_strip bytes ≡ Ok job → length bytes ≡ 4 * words_of job.elements job.mirrors
   sized job e = rw ((counts job e).0, (counts job e).1) (accepted-length bytes (check-read job e).0)
 
   -- "planes (0 to 3)"
@@ -60,5 +62,5 @@ module _ (bytes : List ℕ) where
       omega (arith, ltb-true (mirrors_of bytes) 4 (both (eqb (kind_of (word_at bytes 9)) 6) _ stood).1)
 
   -- so whoever has room for the elements has room for the strip: 64 bytes an element, and at most 260 besides
-  pub reach : (job : Job) → check_strip bytes ≡ Read job → length bytes ≤ 64 * job.elements + 260
+  pub reach : (job : Job) → check_strip bytes ≡ Ok job → length bytes ≤ 64 * job.elements + 260
   reach job e = omega (arith, sized job e, (counts job e).1, few-mirrors (check-read job e).0)

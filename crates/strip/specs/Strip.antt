@@ -1,11 +1,14 @@
 -- Document 01, "The job strip and its program": what a strip is, and what is read from it, by the place of each word. Definitions only.
-use Rattle.std.specs.Prelude.{ℕ, ◌+◌, ◌-◌, ◌*◌, ◌/◌, ◌%◌, ◌^◌, Bool, false, not, ◌&&◌, ◌||◌, List, [], ◌∷◌, eqb, ltb, length, get_or}
+use Rattle.std.specs.Prelude.{Result, Ok, Err, ◌≡◌, ◌⊎◌, ◌<◌, ℕ, ◌+◌, ◌-◌, ◌*◌, ◌/◌, ◌%◌, ◌^◌, Bool, false, not, ◌&&◌, ◌||◌, List, [], ◌∷◌, eqb, ltb, length, get_or}
 use Rattle.lists.specs.Lists.{choose, any_to, overwrite}
+use Rattle.refusal.specs.declared.Refusal.{Refusal}
+use Rattle.refusal.specs.declared.Refusal.TheVariants.{StripMalformed, ListTooShort}
+use Rattle.topo.specs.Stages.{sharpening_of}
+use Rattle.strip.specs.declared.words.Kind.{Kind}
+use Rattle.strip.specs.declared.words.Kind.TheVariants.{Start as AStart, Top as ATop, Next as ANext, Last as ALast, Flag as AFlag, Count as ACount, End as AnEnd}
 use Rattle.strip.specs.declared.words.Place.{Place}
 use Rattle.strip.specs.declared.words.Place.TheVariants.{Start, Top, Next, Last, Flag, Choice, Count, Planes, End, Nothing}
 use Rattle.strip.specs.declared.Job.{Job}
-use Rattle.strip.specs.declared.Answer.{Answer}
-use Rattle.strip.specs.declared.Answer.TheVariants.{Read, Refused}
 
 -- ---- words
 
@@ -24,6 +27,21 @@ kind_of w = w / 2 ^ 28
 
 abbrev pub payload_of : ℕ → ℕ
 payload_of w = w % 2 ^ 28
+
+-- "Kind 1: start [..] 2, 3, 4 in a row: one f64's [..] 5: flag [..] 6: count. 7: end"
+abbrev pub kind_number : Kind → ℕ
+kind_number AStart = 1
+kind_number ATop = 2
+kind_number ANext = 3
+kind_number ALast = 4
+kind_number AFlag = 5
+kind_number ACount = 6
+kind_number AnEnd = 7
+
+-- the kind of a number, and none of 0 and of numbers above 7
+abbrev pub Numbers : Result Kind Refusal → ℕ → Type 0
+Numbers (Ok kind) number = number ≡ kind_number kind
+Numbers (Err why) number = (number ≡ 0) ⊎ (7 < number)
 
 -- "one f64's top 8, next 28, last 28 bits": the 64 bits as they stand, whatever number or not-a-number they are
 unfoldable pub number_of : ℕ → ℕ → ℕ → ℕ
@@ -97,7 +115,7 @@ job_of word =
       elements = payload_of (word 0);
       fraction = number_of (word 1) (word 2) (word 3);
       radius = number_of (word 4) (word 5) (word 6);
-      sharpen = payload_of (word 7);
+      sharpen = sharpening_of (payload_of (word 7));
       max_iterations = payload_of (word 8);
       mirrors = payload_of (word 9);
     }
@@ -117,8 +135,8 @@ accepted bytes =
     && not (any_to (misplaced bytes) (words_of (elements_of bytes) (mirrors_of bytes)))
 
 -- 22, kept: "job strip malformed"; or the job
-unfoldable pub check_strip : List ℕ → Answer
-check_strip bytes = choose (accepted bytes) (Read (job_of (word_at bytes))) (Refused 22)
+unfoldable pub check_strip : List ℕ → Result Job Refusal
+check_strip bytes = choose (accepted bytes) (Ok (job_of (word_at bytes))) (Err StripMalformed)
 
 -- the lists that a job is read into: one place an element, and one a plane
 pub record Lists : Type 0 where
@@ -160,16 +178,16 @@ filled bytes n k l =
 
 -- what a reading answers, and what the lists then hold
 pub record Reading : Type 0 where
-  pub answer : Answer
+  pub answer : Result Job Refusal
   pub lists : Lists
 
-abbrev pub reading : Answer → Lists → Reading
+abbrev pub reading : Result Job Refusal → Lists → Reading
 reading answer l = record { answer = answer; lists = l }
 
 -- the reading of a strip: "22, kept" goes before "14, kept"
 unfoldable pub read_strip : List ℕ → Lists → Reading
 read_strip bytes l =
     choose (accepted bytes)
-    (choose (short l (elements_of bytes) (mirrors_of bytes)) (reading (Refused 14) l)
-    (reading (Read (job_of (word_at bytes))) (filled bytes (elements_of bytes) (mirrors_of bytes) l)))
-    (reading (Refused 22) l)
+    (choose (short l (elements_of bytes) (mirrors_of bytes)) (reading (Err ListTooShort) l)
+    (reading (Ok (job_of (word_at bytes))) (filled bytes (elements_of bytes) (mirrors_of bytes) l)))
+    (reading (Err StripMalformed) l)

@@ -3,25 +3,18 @@
 
 pub mod words;
 
+use topo::Sharpening;
+
 // What a strip says of the job, its lists apart. Numbers are bit patterns, so that a NaN keeps its bits.
-#[repr(C)]
 #[derive(Clone, Copy)]
 pub struct Job {
     pub elements: usize,
     // 01's share
     pub fraction: u64,
     pub radius: u64,
-    // 0, 1 or 2: `topo`'s choices of sharpening
-    pub sharpen: u32,
+    pub sharpen: Sharpening,
     // 01's rounds
     pub max_iterations: usize,
     // 01's planes
     pub mirrors: usize,
-}
-
-#[derive(Clone, Copy)]
-pub enum Answer {
-    Read(Job),
-    // 22, and from `read` 14
-    Refused(u32),
 }

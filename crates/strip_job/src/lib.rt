@@ -1,38 +1,26 @@
 // What program `shape` makes of what a strip's reader said.
 #![tactic(auto)]
 
-ghost use Rattle.std.specs.Prelude.{◌≡◌};
-ghost use Rattle.strip_job.specs.Strips.{refusal_of, job_in, goal_of};
+ghost use Rattle.std.specs.Prelude.{◌≡◌, ◌≤◌, IfOk, Ok};
+ghost use Rattle.refusal.specs.Refusals.{refused};
+ghost use Rattle.strip_job.specs.Strips.{refusal_of, goal_of};
 
-use strip::{Answer, Job};
+use refusal::Refusal;
+use strip::Job;
 use topo::Goal;
 
-// The refusal before the opening, or 0.
-pub fn refusal(answer: Answer) -> u32
-    ensures { result ≡ refusal_of answer }
+// The job to be opened: not one with more elements or rounds than the program has room for.
+#[tactic(auto, unfolding(lists::specs::Lists::choose))]
+pub fn admitted(answer: Result<Job, Refusal>) -> Result<Job, Refusal>
+    ensures number { refused result ≡ refusal_of answer }
+    ensures job { IfOk result (λ job. answer ≡ Ok job) }
+    ensures few { IfOk result (λ job. job.elements ≤ 256) }
 {
-    match answer {
-        Answer::Refused(number) => {
-            return number;
-        }
-        Answer::Read(job) => {
-            let many = (256 < job.elements) | (64 < job.max_iterations);
-            if many {
-                return 14;
-            }
-            return 0;
-        }
+    let job = answer?;
+    if 256 < job.elements || 64 < job.max_iterations {
+        return Err(Refusal::ListTooShort);
     }
-}
-
-// The job, or `none` where there is none.
-pub fn job(answer: Answer, none: Job) -> Job
-    ensures { result ≡ job_in answer none }
-{
-    match answer {
-        Answer::Refused(_) => none,
-        Answer::Read(job) => job,
-    }
+    Ok(job)
 }
 
 // The goal of a job.
@@ -42,7 +30,7 @@ pub fn goal(job: Job) -> Goal
     Goal {
         fraction: ieee_bits::from_bits(job.fraction),
         radius: ieee_bits::from_bits(job.radius),
-        sharpen: topo::sharpening_of(job.sharpen),
+        sharpen: job.sharpen,
         max_iterations: job.max_iterations,
     }
 }

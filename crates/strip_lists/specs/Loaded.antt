@@ -3,6 +3,7 @@ use Rattle.std.specs.Prelude.{◌≡◌, Bool, true, not, ◌&&◌, ◌||◌, Li
 use Rattle.std.specs.Float.Ieee.{of_bits}
 use Rattle.std.specs.Float.{binary64}
 use Rattle.lists.specs.Lists.{overwrite}
+use Rattle.strip_lists.specs.declared.Lists.{Lists as Handed}
 use Rattle.strip.specs.Strip.{Lists as Patterns, accepted, short, elements_of, mirrors_of, element_at, mirror_at, number_at, point_at, plane_at, flag_at}
 use Rattle.strip_floats.specs.Floats.{point_of, plane_of}
 
@@ -13,6 +14,13 @@ pub record Lists : Type 0 where
   pub weights : List Float
   pub passive : List Bool
   pub mirrors : List (List Float)
+
+-- the lists that are lent, with the one of held elements, which has no numbers; and as they are left
+abbrev pub lists_of : Handed → List Bool → Lists
+lists_of l passive = record { volumes = l.volumes.now; centroids = l.centroids.now; weights = l.weights.now; passive = passive; mirrors = l.mirrors.now }
+
+abbrev pub left : List Float → List (List Float) → List Float → List Bool → List (List Float) → Lists
+left volumes centroids weights passive mirrors = record { volumes = volumes; centroids = centroids; weights = weights; passive = passive; mirrors = mirrors }
 
 -- one of them has too few places for n elements and k planes
 unfoldable pub too_short : Lists → ℕ → ℕ → Bool

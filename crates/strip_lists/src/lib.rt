@@ -1,56 +1,66 @@
 // A strip's job in lists of floats.
 #![tactic(auto)]
 
-ghost use Rattle.strip.specs.Strip.{lent};
-ghost use Rattle.strip_lists.specs.Loaded.{Loaded};
+ghost use Rattle.std.specs.Prelude.{◌≡◌, []};
+ghost use Rattle.strip_read.specs.Lent.{held};
+ghost use Rattle.std.specs.Result.{is_ok};
+ghost use Rattle.strip_lists.specs.Loaded.{Loaded, lists_of, left, too_short};
 
-use strip::Answer;
+use refusal::Refusal;
+use strip_read::Lists as Patterns;
 
-// Loads a whole strip, and tells whether it could: not where it is malformed or a list is too short. Its numbers go through the four lists of patterns.
-pub fn load(
-    bytes: &[u8],
-    volume_bits: &mut [u64],
-    centroid_bits: &mut [[u64; 3]],
-    weight_bits: &mut [u64],
-    mirror_bits: &mut [[u64; 6]],
-    volumes: &mut [f64],
-    centroids: &mut [[f64; 3]],
-    weights: &mut [f64],
-    passive: &mut [bool],
-    mirrors: &mut [[f64; 6]],
-) -> bool
-    ensures { Loaded bytes.now (lent volume_bits.old centroid_bits.old weight_bits.old passive.old mirror_bits.old)
-        (record { volumes = volumes.old; centroids = centroids.old; weights = weights.old; passive = passive.old; mirrors = mirrors.old })
-        result
-        (record { volumes = volumes.new; centroids = centroids.new; weights = weights.new; passive = passive.new; mirrors = mirrors.new }) }
-{
-    let answer = strip_read::read(
-        bytes,
-        volume_bits,
-        centroid_bits,
-        weight_bits,
-        passive,
-        mirror_bits,
-    );
-    match answer {
-        Answer::Refused(_) => {
-            return false;
-        }
-        Answer::Read(job) => {
-            let n = job.elements;
-            let k = job.mirrors;
-            let short = (volumes.len() < n)
-                | (centroids.len() < n)
-                | (weights.len() < n)
-                | (mirrors.len() < k);
-            if short {
-                return false;
-            }
-            strip_floats::numbers(&volume_bits[..], n, volumes);
-            strip_floats::points(&centroid_bits[..], n, centroids);
-            strip_floats::numbers(&weight_bits[..], n, weights);
-            strip_floats::planes(&mirror_bits[..], k, mirrors);
-            return true;
-        }
+// The lists that a job is loaded into, the held elements apart: one place an element, and one a plane.
+#[derive(Drop)]
+pub struct Lists<'a> {
+    pub volumes: &'a mut [f64],
+    pub centroids: &'a mut [[f64; 3]],
+    pub weights: &'a mut [f64],
+    pub mirrors: &'a mut [[f64; 6]],
+}
+
+impl Lists<'_> {
+    // Whether a list has less than n places, or the planes' less than k.
+    #[tactic(auto, unfolding(crate::specs::Loaded::too_short))]
+    fn are_short(&self, n: usize, k: usize) -> bool
+        ensures { result ≡ too_short (lists_of self.now []) n k }
+    {
+        self.volumes.len() < n
+            || self.centroids.len() < n
+            || self.weights.len() < n
+            || self.mirrors.len() < k
     }
+}
+
+// Loads a whole strip, where it is well formed and every list is long enough. Its numbers go through the lists of patterns.
+pub fn load(bytes: &[u8], patterns: Patterns, lists: Lists) -> Result<(), Refusal>
+    ensures { Loaded bytes.now (held patterns.entry) (lists_of lists.entry patterns.entry.passive.now) (is_ok result)
+        (left lists.exit.0.now lists.exit.1.0.now lists.exit.1.1.0.now patterns.exit.1.1.1.0.now lists.exit.1.1.1.0.now) }
+{
+    let Patterns {
+        volumes,
+        centroids,
+        weights,
+        passive,
+        mirrors,
+    } = patterns;
+    let job = strip_read::read(
+        bytes,
+        Patterns {
+            volumes: &mut *volumes,
+            centroids: &mut *centroids,
+            weights: &mut *weights,
+            passive,
+            mirrors: &mut *mirrors,
+        },
+    )?;
+    let n = job.elements;
+    let k = job.mirrors;
+    if lists.are_short(n, k) {
+        return Err(Refusal::ListTooShort);
+    }
+    strip_floats::numbers(volumes, n, lists.volumes);
+    strip_floats::rows(centroids, n, lists.centroids);
+    strip_floats::numbers(weights, n, lists.weights);
+    strip_floats::rows(mirrors, k, lists.mirrors);
+    Ok(())
 }

@@ -9,26 +9,28 @@ use lib.ListN.{length}
 use Rattle.lists.proofs.Laws.{choose-true, choose-false, neither}
 use Rattle.lists.specs.Lists.{overwrite}
 use Rattle.strip.proofs.Accepted.{check-refused, check-read, counts}
-use Rattle.strip.specs.declared.Answer.TheVariants.{Read, Refused}
+use Rattle.std.specs.Prelude.{Ok, Err}
+use Rattle.refusal.specs.declared.Refusal.{Refusal}
+use Rattle.refusal.specs.declared.Refusal.TheVariants.{ListTooShort}
 use Rattle.strip.specs.declared.Job.{Job}
 use Rattle.strip.specs.Strip.{number_at, flag_at, point_at, plane_at, mirror_at, element_at, job_of, check_strip, Lists, lent, short, filled, reading, read_strip}
 
 module _ (bytes : List ℕ) where
-  pub malformed : (l : Lists) (number : ℕ) → check_strip bytes ≡ Refused number → reading (Refused number) l ≡ read_strip bytes l
+  pub malformed : (l : Lists) (why : Refusal) → check_strip bytes ≡ Err why → reading (Err why) l ≡ read_strip bytes l
   unfolding read_strip
-  malformed l number e =
-      ap (λ (n : ℕ). reading (Refused n) l) (check-refused bytes number e).1 ∙ sym (choose-false _ _ _ (check-refused bytes number e).0)
+  malformed l why e =
+      ap (λ (w : Refusal). reading (Err w) l) (check-refused bytes why e).1 ∙ sym (choose-false _ _ _ (check-refused bytes why e).0)
 
-  pub too_short : (l : Lists) (job : Job) → check_strip bytes ≡ Read job → short l job.elements job.mirrors ≡ true → reading (Refused 14) l ≡ read_strip bytes l
+  pub too_short : (l : Lists) (job : Job) → check_strip bytes ≡ Ok job → short l job.elements job.mirrors ≡ true → reading (Err ListTooShort) l ≡ read_strip bytes l
   unfolding read_strip
   too_short l job e s =
       sym (choose-true _ _ _ (check-read bytes job e).0 ∙ choose-true _ _ _ (rw ((counts bytes job e).0, (counts bytes job e).1) at s))
 
-  pub all_read : (l : Lists) (job : Job) → check_strip bytes ≡ Read job → short l job.elements job.mirrors ≡ false
-      → reading (Read job) (filled bytes job.elements job.mirrors l) ≡ read_strip bytes l
+  pub all_read : (l : Lists) (job : Job) → check_strip bytes ≡ Ok job → short l job.elements job.mirrors ≡ false
+      → reading (Ok job) (filled bytes job.elements job.mirrors l) ≡ read_strip bytes l
   unfolding read_strip job_of
   all_read l job e s =
-      ap (λ (j : Job). reading (Read j) (filled bytes j.elements j.mirrors l)) (check-read bytes job e).1
+      ap (λ (j : Job). reading (Ok j) (filled bytes j.elements j.mirrors l)) (check-read bytes job e).1
       ∙ sym (choose-true _ _ _ (check-read bytes job e).0 ∙ choose-false _ _ _ (rw ((counts bytes job e).0, (counts bytes job e).1) at s))
 
 -- lists that are not too short

@@ -1,21 +1,25 @@
 // What stands at the places of an accepted strip, and the lists filled from there. Below the surface: the bytes are known to reach.
 ghost use Rattle.std.specs.Prelude.{◌≡◌, ◌+◌, ◌*◌, ◌≤◌, length};
-ghost use Rattle.lists.specs.Lists.{overwrite};
+ghost use Rattle.lists.specs.Lists.{tabulate, overwrite};
 ghost use Rattle.strip.specs.Strip.{word_at, number_at, flag_at, point_at, plane_at, mirror_at};
 
+use strip::words;
+
+#[tactic(auto, unfolding(strip::specs::Strip::word_at))]
 fn word_at(bytes: &[u8], p: usize) -> u32
     requires { 4 * p + 4 ≤ length bytes.now }
     ensures { result ≡ word_at bytes.now p }
 {
     let i = 4 * p;
-    strip::words::little_endian(bytes[i], bytes[i + 1], bytes[i + 2], bytes[i + 3])
+    words::little_endian([bytes[i], bytes[i + 1], bytes[i + 2], bytes[i + 3]])
 }
 
+#[tactic(auto, unfolding(strip::specs::Strip::number_at))]
 fn number_at(bytes: &[u8], p: usize) -> u64
     requires { 4 * p + 12 ≤ length bytes.now }
     ensures { result ≡ number_at bytes.now p }
 {
-    strip::words::number(
+    words::number(
         word_at(bytes, p),
         word_at(bytes, p + 1),
         word_at(bytes, p + 2),
@@ -26,45 +30,35 @@ fn flag_at(bytes: &[u8], p: usize) -> bool
     requires { 4 * p + 4 ≤ length bytes.now }
     ensures { result ≡ flag_at bytes.now p }
 {
-    word_at(bytes, p) % 0x1000_0000 == 1
+    words::payload(word_at(bytes, p)) == 1
 }
 
-fn point_at(bytes: &[u8], p: usize) -> [u64; 3]
-    requires { 4 * p + 36 ≤ length bytes.now }
-    ensures { result ≡ point_at bytes.now p }
+// Numbers one after the other: those of a point, or of a plane's point and normal.
+#[tactic(auto, unfolding(lists::specs::Lists::overwrite))]
+fn numbers_at<const N: usize>(bytes: &[u8], p: usize) -> [u64; N]
+    requires { 4 * p + 12 * N ≤ length bytes.now }
+    ensures { result ≡ tabulate (λ i. number_at bytes.now (p + 3 * i)) N }
 {
-    let x = number_at(bytes, p);
-    let y = number_at(bytes, p + 3);
-    let z = number_at(bytes, p + 6);
-    [x, y, z]
+    let mut numbers = [0; N];
+    for (i, number) in numbers.iter_mut().enumerate() {
+        *number = number_at(bytes, p + 3 * i);
+    }
+    numbers
 }
 
-fn plane_at(bytes: &[u8], p: usize) -> [u64; 6]
-    requires { 4 * p + 72 ≤ length bytes.now }
-    ensures { result ≡ plane_at bytes.now p }
-{
-    let x = number_at(bytes, p);
-    let y = number_at(bytes, p + 3);
-    let z = number_at(bytes, p + 6);
-    let u = number_at(bytes, p + 9);
-    let v = number_at(bytes, p + 12);
-    let w = number_at(bytes, p + 15);
-    [x, y, z, u, v, w]
-}
-
+#[tactic(auto, unfolding(lists::specs::Lists::overwrite))]
 pub fn mirrors(bytes: &[u8], k: usize, to: &mut [[u64; 6]])
     requires { (4 * mirror_at k ≤ length bytes.now) × (k ≤ length to.old) }
     ensures { to.new ≡ overwrite (λ i. plane_at bytes.now (mirror_at i)) k to.old }
 {
-    let mut i = 0usize;
-    while i < k {
-        let plane = plane_at(bytes, 10 + 18 * i);
+    for i in 0..k {
+        let plane = numbers_at::<6>(bytes, 10 + 18 * i);
         to[i] = plane;
-        i += 1usize;
     }
 }
 
 // The elements, the first at word `first`.
+#[tactic(auto, unfolding(lists::specs::Lists::overwrite))]
 pub fn elements(
     bytes: &[u8],
     first: usize,
@@ -81,14 +75,11 @@ pub fn elements(
     ensures weights_after { weights.new ≡ overwrite (λ e. number_at bytes.now (first + 16 * e + 12)) n weights.old }
     ensures passive_after { passive.new ≡ overwrite (λ e. flag_at bytes.now (first + 16 * e + 15)) n passive.old }
 {
-    let mut e = 0usize;
-    while e < n {
+    for e in 0..n {
         let p = first + 16 * e;
         volumes[e] = number_at(bytes, p);
-        let point = point_at(bytes, p + 3);
-        centroids[e] = point;
+        centroids[e] = numbers_at(bytes, p + 3);
         weights[e] = number_at(bytes, p + 12);
         passive[e] = flag_at(bytes, p + 15);
-        e += 1usize;
     }
 }

@@ -4,40 +4,55 @@
 pub mod fill;
 
 ghost use Rattle.std.specs.Prelude.{◌≡◌};
-ghost use Rattle.strip.specs.Strip.{read_strip, reading, lent};
+ghost use Rattle.strip.specs.Strip.{read_strip, reading, lent, short};
+ghost use Rattle.strip_read.specs.Lent.{held};
 
-use strip::Answer;
+use refusal::Refusal;
+use strip::Job;
 
-// The whole strip, its elements and planes into lists. A strip that is malformed, 22, and after it a list that is too short, 14, leave every list as it
-// was lent.
-pub fn read(
-    bytes: &[u8],
-    volumes: &mut [u64],
-    centroids: &mut [[u64; 3]],
-    weights: &mut [u64],
-    passive: &mut [bool],
-    mirrors: &mut [[u64; 6]],
-) -> Answer
-    ensures { reading result (lent volumes.new centroids.new weights.new passive.new mirrors.new)
-        ≡ read_strip bytes.now (lent volumes.old centroids.old weights.old passive.old mirrors.old) }
-{
-    let answer = strip_stream::check(bytes);
-    match answer {
-        Answer::Refused(number) => Answer::Refused(number),
-        Answer::Read(job) => {
-            let n = job.elements;
-            let k = job.mirrors;
-            let short = (volumes.len() < n)
-                | (centroids.len() < n)
-                | (weights.len() < n)
-                | (passive.len() < n)
-                | (mirrors.len() < k);
-            if short {
-                return Answer::Refused(14);
-            }
-            fill::mirrors(bytes, k, mirrors);
-            fill::elements(bytes, 10 + 18 * k, n, volumes, centroids, weights, passive);
-            Answer::Read(job)
-        }
+// The lists that a job is read into: one place an element, and one a plane.
+#[derive(Drop)]
+pub struct Lists<'a> {
+    pub volumes: &'a mut [u64],
+    pub centroids: &'a mut [[u64; 3]],
+    pub weights: &'a mut [u64],
+    pub passive: &'a mut [bool],
+    pub mirrors: &'a mut [[u64; 6]],
+}
+
+impl Lists<'_> {
+    // Whether a list has less than n places, or the planes' less than k.
+    #[tactic(auto, unfolding(strip::specs::Strip::short))]
+    fn are_short(&self, n: usize, k: usize) -> bool
+        ensures { result ≡ short (held self.now) n k }
+    {
+        self.volumes.len() < n
+            || self.centroids.len() < n
+            || self.weights.len() < n
+            || self.passive.len() < n
+            || self.mirrors.len() < k
     }
+}
+
+// The whole strip, its elements and planes into lists. A strip that is malformed, and after it a list that is too short, leave every list as it was lent.
+pub fn read(bytes: &[u8], lists: Lists) -> Result<Job, Refusal>
+    ensures { reading result (lent lists.exit.0.now lists.exit.1.0.now lists.exit.1.1.0.now lists.exit.1.1.1.0.now lists.exit.1.1.1.1.0.now)
+        ≡ read_strip bytes.now (held lists.entry) }
+{
+    let job = strip_stream::check(bytes)?;
+    let n = job.elements;
+    let k = job.mirrors;
+    if lists.are_short(n, k) {
+        return Err(Refusal::ListTooShort);
+    }
+    let Lists {
+        volumes,
+        centroids,
+        weights,
+        passive,
+        mirrors,
+    } = lists;
+    fill::mirrors(bytes, k, mirrors);
+    fill::elements(bytes, 10 + 18 * k, n, volumes, centroids, weights, passive);
+    Ok(job)
 }

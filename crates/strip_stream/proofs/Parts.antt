@@ -1,10 +1,9 @@
 -- A reader that is fed a strip in parts answers as `check_strip` does for all of it: what it holds behind the last byte (`Streamed`) decides both
 -- answers alike. Assumes nothing.
-use borrow.Author.Tests.{eq-eqb, eqb-true, not-true}
+use borrow.Author.Tests.{eq-eqb, eqb-true}
 use mathlib.Core.Path.{◌≡◌, refl, sym, ap, ◌∙◌}
-use mathlib.Core.Bool.{Bool, true, false, not, ◌&&◌}
+use mathlib.Core.Bool.{Bool, true, false, ◌&&◌}
 use mathlib.Core.List.{List, [], ◌∷◌, ◌++◌, flatten}
-use mathlib.Core.Logic.{inl, inr}
 use Prim.Native.Nat.{ℕ, zero, suc, ◌+◌, ◌*◌, ◌≤◌, ◌<◌}
 use native.Mathlib.Numerals.{add-one}
 use native.Mathlib.Omega.{arith}
@@ -12,44 +11,49 @@ use lib.Dec.{eqb}
 use lib.ListN.{length, get_or, drop}
 use lib.Seq.{drop-cons, drop-length}
 use Rattle.lists.proofs.Laws.{choose-true, choose-false, any-not, both}
-use Rattle.lists.specs.Lists.{any_to}
 use Rattle.strip.proofs.Accepted.{accepted-length, accepted-places}
-use Rattle.strip.specs.declared.Answer.TheVariants.{Read}
+use Rattle.std.specs.Prelude.{Result, Ok, Err}
+use Rattle.refusal.specs.declared.Refusal.{Refusal}
 use Rattle.strip_stream.specs.declared.Reader.{Reader}
-use Rattle.strip_stream.specs.Stream.{begun, head_word, stepped, fed, fed_parts, finished}
+use Rattle.strip_stream.specs.Stream.{begun, head_word, after, fed, fed_parts, finished}
 use Rattle.strip.specs.Strip.{payload_of, word_at, words_of, elements_of, mirrors_of, job_of, misplaced, accepted, check_strip}
 use Rattle.strip_stream.proofs.Streamed.{Good, Bad, Behind, at_first, one_more}
 
 -- the next byte of what is left
-pub fed-next : (r : Reader) (bytes : List ℕ) (i : ℕ) → i < length bytes → fed (stepped r (get_or bytes i 0)) (drop (i + 1) bytes) ≡ fed r (drop i bytes)
+pub fed_next : (r : Result Reader Refusal) (bytes : List ℕ) (i : ℕ) → i < length bytes → fed (after r (get_or bytes i 0)) (drop (i + 1) bytes) ≡ fed r (drop i bytes)
 unfolding fed
-fed-next r bytes i h = rw (add-one, drop-cons bytes i 0 h)
+fed_next r bytes i h = rw (add-one, drop-cons bytes i 0 h)
 
-pub fed-all : (r : Reader) (bytes : List ℕ) → fed r (drop (length bytes) bytes) ≡ r
+pub fed_all : (r : Result Reader Refusal) (bytes : List ℕ) → fed r (drop (length bytes) bytes) ≡ r
 unfolding fed
-fed-all r bytes = rw (drop-length bytes)
+fed_all r bytes = rw (drop-length bytes)
+
+pub fed_refused : (why : Refusal) (bytes : List ℕ) → fed (Err why) bytes ≡ Err why
+unfolding fed
+fed_refused why [] = refl
+fed_refused why (b ∷ bytes) = fed_refused why bytes
 
 -- two parts, one after the other
-pub fed-append : (r : Reader) (a b : List ℕ) → fed r (a ++ b) ≡ fed (fed r a) b
+pub fed-append : (r : Result Reader Refusal) (a b : List ℕ) → fed r (a ++ b) ≡ fed (fed r a) b
 unfolding fed
 fed-append r [] b = refl
-fed-append r (x ∷ a) b = fed-append (stepped r x) a b
+fed-append r (x ∷ a) b = fed-append (after r x) a b
 
 -- what is behind the last byte
-behind-rest : (bytes : List ℕ) (n i : ℕ) (r : Reader) → i + n ≡ length bytes → Behind bytes i r → Behind bytes (length bytes) (fed r (drop i bytes))
+behind-rest : (bytes : List ℕ) (n i : ℕ) (r : Result Reader Refusal) → i + n ≡ length bytes → Behind bytes i r → Behind bytes (length bytes) (fed r (drop i bytes))
 behind-rest bytes zero i r e b =
     let h : i ≡ length bytes = omega arith in
-    rw (h, fed-all r bytes) (rw h at b)
+    rw (h, fed_all r bytes) (rw h at b)
 behind-rest bytes (suc n) i r e b =
-    rw (← (fed-next r bytes i (omega arith))) (behind-rest bytes n (i + 1) (stepped r (get_or bytes i 0)) (omega arith) (one_more bytes i r b))
+    rw (← (fed_next r bytes i (omega arith))) (behind-rest bytes n (i + 1) (after r (get_or bytes i 0)) (omega arith) (one_more bytes i r b))
 
-behind-all : (bytes : List ℕ) → Behind bytes (length bytes) (fed begun bytes)
-behind-all bytes = behind-rest bytes (length bytes) 0 begun (omega arith) (at_first bytes)
+behind-all : (bytes : List ℕ) → Behind bytes (length bytes) (fed (Ok begun) bytes)
+behind-all bytes = behind-rest bytes (length bytes) 0 (Ok begun) (omega arith) (at_first bytes)
 
 -- ---- both answers
-bad-answer : (bytes : List ℕ) (r : Reader) → Bad bytes (length bytes) r → finished r ≡ check_strip bytes
+bad-answer : (bytes : List ℕ) (why : Refusal) → Bad bytes (length bytes) why → finished (Err why) ≡ check_strip bytes
 unfolding finished check_strip
-bad-answer bytes r b = choose-false _ _ _ (rw b.spoilt) ∙ sym (choose-false _ _ _ (go (accepted bytes) refl))
+bad-answer bytes why b = rw b.malformed (sym (choose-false _ _ _ (go (accepted bytes) refl)))
   where
     go : (t : Bool) → accepted bytes ≡ t → t ≡ false
     go false e = refl
@@ -72,13 +76,13 @@ module _ (bytes : List ℕ) (r : Reader) (g : Good bytes (length bytes) r) where
 
   -- the reader's test, and the strip's
   complete : Bool
-  complete = not r.bad && eqb r.held 0 && eqb r.words (words_of (payload_of (head_word r 0)) (payload_of (head_word r 9)))
+  complete = eqb r.held 0 && eqb r.words (words_of (payload_of (head_word r 0)) (payload_of (head_word r 9)))
 
   ended : complete ≡ true → (r.held ≡ 0) × (r.words ≡ words_of (payload_of (head_word r 0)) (payload_of (head_word r 9)))
   unfolding complete
   ended e =
-      let h : ((not r.bad && eqb r.held 0) ≡ true) × (eqb r.words (words_of (payload_of (head_word r 0)) (payload_of (head_word r 9))) ≡ true) = both (not r.bad && eqb r.held 0) _ e in
-      (eqb-true r.held 0 (both (not r.bad) _ h.0).1, eqb-true r.words _ h.1)
+      let h : (eqb r.held 0 ≡ true) × (eqb r.words (words_of (payload_of (head_word r 0)) (payload_of (head_word r 9))) ≡ true) = both (eqb r.held 0) _ e in
+      (eqb-true r.held 0 h.0, eqb-true r.words _ h.1)
 
   then-accepted : complete ≡ true → accepted bytes ≡ true
   unfolding accepted
@@ -100,30 +104,30 @@ module _ (bytes : List ℕ) (r : Reader) (g : Good bytes (length bytes) r) where
           let h : r.held ≡ 0 = omega (arith, g.count, g.small) in
           let m : r.words ≡ words_of (elements_of bytes) (mirrors_of bytes) = omega (arith, g.count) in
           let w : r.words ≡ words_of (payload_of (head_word r 0)) (payload_of (head_word r 9)) = m ∙ sym (same-words (omega arith)) in
-          let c : complete ≡ true = rw (g.fine, eq-eqb _ _ h, eq-eqb _ _ w) in
+          let c : complete ≡ true = rw (eq-eqb _ _ h, eq-eqb _ _ w) in
           let z : ◌≡◌ {A = ℕ} 0 1 = cc in absurd (omega arith)
 
-  good-answer : finished r ≡ check_strip bytes
+  good-answer : finished (Ok r) ≡ check_strip bytes
   unfolding finished check_strip complete
   good-answer = go complete refl
     where
-      go : (t : Bool) → complete ≡ t → finished r ≡ check_strip bytes
-      go true e = choose-true _ _ _ e ∙ ap Read (same-job (omega (arith, (ended e).1))) ∙ sym (choose-true _ _ _ (then-accepted e))
+      go : (t : Bool) → complete ≡ t → finished (Ok r) ≡ check_strip bytes
+      go true e = choose-true _ _ _ e ∙ ap Ok (same-job (omega (arith, (ended e).1))) ∙ sym (choose-true _ _ _ (then-accepted e))
       go false e = choose-false _ _ _ e ∙ sym (choose-false _ _ _ (else-refused e))
 
-pub answered : (bytes : List ℕ) (r : Reader) → Behind bytes (length bytes) r → finished r ≡ check_strip bytes
-answered bytes r (inl g) = good-answer bytes r g
-answered bytes r (inr b) = bad-answer bytes r b
+pub answered : (bytes : List ℕ) (x : Result Reader Refusal) → Behind bytes (length bytes) x → finished x ≡ check_strip bytes
+answered bytes (Ok r) g = good-answer bytes r g
+answered bytes (Err why) b = bad-answer bytes why b
 
 -- a strip in one part
-pub whole : (bytes : List ℕ) → finished (fed begun bytes) ≡ check_strip bytes
-whole bytes = answered bytes (fed begun bytes) (behind-all bytes)
+pub whole : (bytes : List ℕ) → finished (fed (Ok begun) bytes) ≡ check_strip bytes
+whole bytes = answered bytes (fed (Ok begun) bytes) (behind-all bytes)
 
 -- a strip in parts, however it is cut
-fed-parts : (r : Reader) (parts : List (List ℕ)) → fed_parts r parts ≡ fed r (flatten parts)
+fed-parts : (r : Result Reader Refusal) (parts : List (List ℕ)) → fed_parts r parts ≡ fed r (flatten parts)
 unfolding fed_parts fed flatten
 fed-parts r [] = refl
 fed-parts r (a ∷ parts) = fed-parts (fed r a) parts ∙ sym (fed-append r a (flatten parts))
 
-pub in_parts : (parts : List (List ℕ)) → finished (fed_parts begun parts) ≡ check_strip (flatten parts)
-in_parts parts = ap finished (fed-parts begun parts) ∙ whole (flatten parts)
+pub in_parts : (parts : List (List ℕ)) → finished (fed_parts (Ok begun) parts) ≡ check_strip (flatten parts)
+in_parts parts = ap finished (fed-parts (Ok begun) parts) ∙ whole (flatten parts)

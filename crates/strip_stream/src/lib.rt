@@ -1,141 +1,112 @@
-// The check of a job strip, in parts of any size by `begin`, `feed` and `finish`, or as a whole by `check`.
+// The check of a job strip, in parts of any size by a `Reader`, or as a whole by `check`.
 #![tactic(auto)]
 
 ghost use Rattle.std.specs.Prelude.{◌≡◌};
 ghost use Rattle.strip.specs.Strip.{check_strip};
 ghost use Rattle.strip_stream.specs.Stream.{begun, taken, stepped, fed, finished};
 
-use strip::{Answer, Job, words};
+use refusal::Refusal;
+use strip::{Job, words};
 
-// What is kept between two parts.
-#[repr(C)]
+// What is kept between two parts: every whole word stood at its place.
 #[derive(Clone, Copy)]
 pub struct Reader {
-    // whether a word did not stand at its place
-    pub bad: bool,
     // the whole words read
-    pub words: usize,
+    words: usize,
     // how many bytes of the next word are read, 0 to 3
-    pub held: u32,
+    held: u32,
     // the last three bytes of it, the oldest first
-    pub byte0: u8,
-    pub byte1: u8,
-    pub byte2: u8,
+    bytes: [u8; 3],
     // the words before the first plane
-    pub head: [u32; 10],
+    head: [u32; 10],
 }
 
-// A reader of the next strip.
-pub fn begin() -> Reader
-    ensures { result ≡ begun }
-{
-    Reader {
-        bad: false,
-        words: 0,
-        held: 0,
-        byte0: 0,
-        byte1: 0,
-        byte2: 0,
-        head: [0u32; 10],
-    }
-}
-
-// A whole word more.
-fn take_word(r: Reader, w: u32) -> Reader
-    ensures { result ≡ taken r w }
-{
-    let p = r.words;
-    let mut head = r.head;
-    let place = words::place_at(head[0] % 0x1000_0000, head[9] % 0x1000_0000, p);
-    if words::stands_at(place, p, w) {
-        let next = p + 1;
-        if p < 10 {
-            head[p] = w;
-        }
+impl Reader {
+    // A reader of the next strip.
+    pub fn begin() -> Reader
+        ensures { result ≡ begun }
+    {
         Reader {
-            bad: r.bad,
-            words: next,
+            words: 0,
             held: 0,
-            byte0: 0,
-            byte1: 0,
-            byte2: 0,
-            head,
-        }
-    } else {
-        Reader {
-            bad: true,
-            words: p,
-            held: 0,
-            byte0: 0,
-            byte1: 0,
-            byte2: 0,
-            head,
+            bytes: [0; 3],
+            head: [0; 10],
         }
     }
-}
 
-// A byte more.
-fn step(r: Reader, b: u8) -> Reader
-    ensures { result ≡ stepped r b }
-{
-    if r.bad {
-        return r;
-    }
-    if r.held < 3 {
-        let held = r.held + 1;
-        let head = r.head;
-        return Reader {
-            bad: r.bad,
-            words: r.words,
-            held,
-            byte0: r.byte1,
-            byte1: r.byte2,
-            byte2: b,
+    // A whole word more. The count cannot overflow, since no word that stands at its place is past the end.
+    #[tactic(auto, using(crate::proofs::Streamed::counted), unfolding(crate::specs::Stream::taken, lists::specs::Lists::choose))]
+    fn take_word(self, w: u32) -> Result<Reader, Refusal>
+        ensures { result ≡ taken self w }
+    {
+        let mut head = self.head;
+        let place = words::place_at(words::payload(head[0]), words::payload(head[9]), self.words);
+        if !words::stands_at(place, self.words, w) {
+            return Err(Refusal::StripMalformed);
+        }
+        if self.words < 10 {
+            head[self.words] = w;
+        }
+        Ok(Reader {
+            words: self.words + 1,
+            held: 0,
+            bytes: [0; 3],
             head,
-        };
+        })
     }
-    take_word(r, words::little_endian(r.byte0, r.byte1, r.byte2, b))
-}
 
-// A part more of the strip.
-pub fn feed(r: Reader, bytes: &[u8]) -> Reader
-    ensures { result ≡ fed r bytes.now }
-{
-    let mut s = r;
-    let mut i = 0usize;
-    while i < bytes.len() {
-        s = step(s, bytes[i]);
-        i += 1usize;
+    // A byte more.
+    #[tactic(auto, unfolding(crate::specs::Stream::stepped, lists::specs::Lists::choose))]
+    fn step(self, b: u8) -> Result<Reader, Refusal>
+        ensures { result ≡ stepped self b }
+    {
+        let [b0, b1, b2] = self.bytes;
+        if self.held < 3 {
+            return Ok(Reader {
+                held: self.held + 1,
+                bytes: [b1, b2, b],
+                ..self
+            });
+        }
+        self.take_word(words::little_endian([b0, b1, b2, b]))
     }
-    s
-}
 
-// The strip is at its end: 22 where it is malformed.
-pub fn finish(r: Reader) -> Answer
-    ensures { result ≡ finished r }
-{
-    let head = r.head;
-    let elements = (head[0] % 0x1000_0000) as usize;
-    let mirrors = (head[9] % 0x1000_0000) as usize;
-    let needed = 10 + 18 * mirrors + 16 * elements + 1;
-    let whole = !r.bad & (r.held == 0) & (r.words == needed);
-    if whole {
-        let max_iterations = (head[8] % 0x1000_0000) as usize;
-        return Answer::Read(Job {
+    // A part more of the strip.
+    pub fn feed(self, bytes: &[u8]) -> Result<Reader, Refusal>
+        ensures { result ≡ fed (Ok self) bytes.now }
+    {
+        let mut reader = self;
+        for b in bytes {
+            reader = reader.step(*b)?;
+        }
+        Ok(reader)
+    }
+
+    // The strip is at its end.
+    #[tactic(auto, unfolding(crate::specs::Stream::finished, strip::specs::Strip::job_of, lists::specs::Lists::choose))]
+    pub fn finish(self) -> Result<Job, Refusal>
+        ensures { result ≡ finished (Ok self) }
+    {
+        let head = self.head;
+        let elements = words::payload(head[0]) as usize;
+        let mirrors = words::payload(head[9]) as usize;
+        if self.held != 0 || self.words != 10 + 18 * mirrors + 16 * elements + 1 {
+            return Err(Refusal::StripMalformed);
+        }
+        Ok(Job {
             elements,
             fraction: words::number(head[1], head[2], head[3]),
             radius: words::number(head[4], head[5], head[6]),
-            sharpen: head[7] % 0x1000_0000,
-            max_iterations,
+            sharpen: topo::sharpening_of(words::payload(head[7])),
+            max_iterations: words::payload(head[8]) as usize,
             mirrors,
-        });
+        })
     }
-    Answer::Refused(22)
 }
 
 // The whole strip at once.
-pub fn check(bytes: &[u8]) -> Answer
+pub fn check(bytes: &[u8]) -> Result<Job, Refusal>
     ensures { result ≡ check_strip bytes.now }
 {
-    finish(feed(begin(), bytes))
+    Reader::begin().feed(bytes)?.finish()
 }

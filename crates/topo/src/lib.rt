@@ -3,7 +3,8 @@
 
 ghost use Rattle.std.specs.Prelude.{◌≡◌, true};
 ghost use Rattle.topo.specs.Levels.{modulus_of, level_of};
-ghost use Rattle.topo.specs.Stages.{sharpens as sharpens_of, early as early_of, sharpening_of, sharpening_number};
+ghost use Rattle.topo.specs.Stages.{sharpens as sharpens_of, early as early_of, sharpening_of, sharpening_number, IsSharpening};
+ghost use Rattle.topo.specs.Stops.{stop_number};
 
 // How many stiffness levels the solver is given: level 0 is the floor, 1000 the material itself.
 pub const LEVELS: u16 = 1000;
@@ -33,7 +34,7 @@ pub const LEVEL_OFF_RUN: usize = 5;
 pub const MAX_SHAPE_NODES: usize = 100_000;
 
 // Whether the design is sharpened toward solid and empty as it goes, and when the steepness moves on.
-#[derive(Clone, Copy)]
+#[derive(Clone, Copy, PartialEq, Eq, Debug)]
 pub enum Sharpening {
     Off,
     // after 20 rounds or a small change: mod.rs's own
@@ -85,7 +86,7 @@ pub enum Ending {
 }
 
 // Why a run stopped.
-#[derive(Clone, Copy)]
+#[derive(Clone, Copy, PartialEq, Eq, Debug)]
 pub enum Stop {
     Settled,
     LevelledOff,
@@ -94,60 +95,115 @@ pub enum Stop {
     Stopped,
 }
 
-// Whether the design is sharpened at all.
-pub fn sharpens(choice: Sharpening) -> bool
-    ensures { result ≡ sharpens_of choice }
-{
-    match choice {
-        Sharpening::Off => false,
-        Sharpening::Early => true,
-        Sharpening::Full => true,
+impl Sharpening {
+    // Whether the design is sharpened at all.
+    pub fn sharpens(self) -> bool
+        ensures { result ≡ sharpens_of self }
+    {
+        match self {
+            Sharpening::Off => false,
+            Sharpening::Early | Sharpening::Full => true,
+        }
+    }
+
+    // Whether a small change moves the steepness on before its 20 rounds.
+    pub fn early(self) -> bool
+        ensures { result ≡ early_of self }
+    {
+        match self {
+            Sharpening::Early => true,
+            Sharpening::Off | Sharpening::Full => false,
+        }
     }
 }
 
-// Whether a small change moves the steepness on before its 20 rounds.
-pub fn early(choice: Sharpening) -> bool
-    ensures { result ≡ early_of choice }
-{
-    match choice {
-        Sharpening::Off => false,
-        Sharpening::Early => true,
-        Sharpening::Full => false,
+impl From<Sharpening> for u32 {
+    ghost from_gives = { λ choice n. n ≡ sharpening_number choice };
+
+    fn from(choice: Sharpening) -> u32
+        ensures { result ≡ sharpening_number choice }
+    {
+        match choice {
+            Sharpening::Off => 0,
+            Sharpening::Early => 1,
+            Sharpening::Full => 2,
+        }
+    }
+}
+
+// A number that no choice of sharpening has.
+#[derive(Clone, Copy, PartialEq, Eq, Debug)]
+pub struct UnknownSharpening(pub u32);
+
+impl TryFrom<u32> for Sharpening {
+    type Error = UnknownSharpening;
+
+    ghost try_from_gives = { IsSharpening };
+
+    fn try_from(number: u32) -> Result<Sharpening, UnknownSharpening> {
+        match number {
+            0 => Ok(Sharpening::Off),
+            1 => Ok(Sharpening::Early),
+            2 => Ok(Sharpening::Full),
+            _ => Err(UnknownSharpening(number)),
+        }
     }
 }
 
 // The choice that a strip, or a caller that knows no enums, gives by a number. Whoever reads one refuses a number above 2.
+#[tactic(auto, unfolding(crate::specs::Stages::sharpening_of, lists::specs::Lists::choose))]
 pub fn sharpening_of(number: u32) -> Sharpening
     ensures { result ≡ sharpening_of number }
 {
-    if number == 0 {
-        return Sharpening::Off;
+    match number {
+        0 => Sharpening::Off,
+        1 => Sharpening::Early,
+        _ => Sharpening::Full,
     }
-    if number == 1 {
-        return Sharpening::Early;
+}
+
+impl From<Stop> for u32 {
+    ghost from_gives = { λ why n. n ≡ stop_number why };
+
+    fn from(why: Stop) -> u32
+        ensures { result ≡ stop_number why }
+    {
+        match why {
+            Stop::Settled => 0,
+            Stop::LevelledOff => 1,
+            Stop::Limit => 2,
+            Stop::Budget => 3,
+            Stop::Stopped => 4,
+        }
     }
-    Sharpening::Full
+}
+
+// The functions below go when nobody calls them.
+
+pub fn sharpens(choice: Sharpening) -> bool
+    ensures { result ≡ sharpens_of choice }
+{
+    choice.sharpens()
+}
+
+pub fn early(choice: Sharpening) -> bool
+    ensures { result ≡ early_of choice }
+{
+    choice.early()
 }
 
 pub fn sharpening_number(choice: Sharpening) -> u32
     ensures { result ≡ sharpening_number choice }
 {
-    match choice {
-        Sharpening::Off => 0,
-        Sharpening::Early => 1,
-        Sharpening::Full => 2,
-    }
+    u32::from(choice)
 }
 
 // The Young's modulus of a stiffness level for a material of modulus e0: the floor plus the level's density cubed of the rest.
+#[tactic(auto, unfolding(crate::specs::Levels::modulus_of, crate::specs::Levels::density_of))]
 pub fn modulus(level: u16, e0: f64) -> f64
     ensures { result ≡ modulus_of level e0 }
 {
-    let mut n = level;
-    if LEVELS < n {
-        n = LEVELS;
-    }
-    let x = (n as f64) / (LEVELS as f64);
+    let x = (level.min(LEVELS) as f64) / (LEVELS as f64);
     e0 * (FLOOR + x * x * x * (1.0 - FLOOR))
 }
 

@@ -2,19 +2,19 @@
 use mathlib.Core.Path.{◌≡◌, refl, sym, ap, subst, ◌∙◌}
 use mathlib.Core.Bool.{Bool, true, false, beq, not, ◌&&◌, ◌||◌}
 use mathlib.Core.Logic.{⊎_elim}
-use Prim.Native.Nat.{ℕ, zero, suc, ◌*◌, ◌≤◌, ◌<◌}
+use Prim.Native.Nat.{ℕ, zero, suc, ◌*◌, ◌-◌, ◌≤◌, ◌<◌}
 use native.Mathlib.Nat.{not-suc-le-zero, le_of_suc-le-suc, eq-or-lt_of_le}
 use native.Mathlib.Omega.{arith}
 use lib.Dec.{T, eqb}
 use lib.Ieee.{Float, nan, inf, fin, up, down, level as levels, is_nan, lt, le, eq}
 use lib.Ieee.Bits.{is_true}
 use borrow.Author.Tests.{eqb-true, eq-eqb}
-use Rattle.lists.proofs.Bools.{never, and-true}
+use Rattle.lists.proofs.Bools.{never, and-true, le-or-lt}
 use Rattle.lists.proofs.Laws.{choose-true, choose-false, both}
 use Rattle.ieee.proofs.Basic.{holds}
 use Rattle.ieee.proofs.Order.{le_transitive, le-number, le_not_lt}
 use Rattle.ieee.proofs.Bounds.{not-lt-le}
-use Rattle.topo_moduli.specs.declared.Level.TheVariants.{At, None}
+use Rattle.std.proofs.Common.{Some, None}
 use Rattle.topo_moduli.specs.Moduli.{modulus_at, greatest, inside, level_with, level_below, GreatestBelow, Back}
 use Rattle.topo_moduli.proofs.Moduli.{modulus-number, at_least, rising}
 
@@ -22,15 +22,15 @@ use Rattle.topo_moduli.proofs.Moduli.{modulus-number, at_least, rising}
 pub greatest-none : (p : ℕ → Bool) (n : ℕ) → ((k : ℕ) → k < n → p k ≡ false) → greatest p n ≡ None
 unfolding greatest
 greatest-none p zero h = refl
-greatest-none p (suc n) h = choose-false (p n) (At n) (greatest p n) (h n (omega arith)) ∙ greatest-none p n (λ k b. h k (omega arith))
+greatest-none p (suc n) h = choose-false (p n) (Some n) (greatest p n) (h n (omega arith)) ∙ greatest-none p n (λ k b. h k (omega arith))
 
-pub greatest-at : (p : ℕ → Bool) (n level : ℕ) → level < n → p level ≡ true → ((k : ℕ) → level < k → k < n → p k ≡ false) → greatest p n ≡ At level
+pub greatest-at : (p : ℕ → Bool) (n level : ℕ) → level < n → p level ≡ true → ((k : ℕ) → level < k → k < n → p k ≡ false) → greatest p n ≡ Some level
 unfolding greatest
 greatest-at p zero level h e above = absurd (not-suc-le-zero h)
 greatest-at p (suc n) level h e above =
     ⊎_elim
-    (λ (q : level ≡ n). choose-true (p n) (At n) (greatest p n) (ap p (sym q) ∙ e) ∙ ap At (sym q))
-    (λ (b : level < n). choose-false (p n) (At n) (greatest p n) (above n b (omega arith)) ∙ greatest-at p n level b e (λ k c d. above k c (omega arith)))
+    (λ (q : level ≡ n). choose-true (p n) (Some n) (greatest p n) (ap p (sym q) ∙ e) ∙ ap Some (sym q))
+    (λ (b : level < n). choose-false (p n) (Some n) (greatest p n) (above n b (omega arith)) ∙ greatest-at p n level b e (λ k c d. above k c (omega arith)))
     (eq-or-lt_of_le (le_of_suc-le-suc h))
 
 -- what it is, where it is a level: p holds there and at no level above
@@ -39,17 +39,17 @@ pub record Greatest (p : ℕ → Bool) (n level : ℕ) : Type 0 where
   pub holds-there : p level ≡ true
   pub not-above : (k : ℕ) → level < k → k < n → p k ≡ false
 
-pub greatest-is : (p : ℕ → Bool) (n level : ℕ) → greatest p n ≡ At level → Greatest p n level
+pub greatest-is : (p : ℕ → Bool) (n level : ℕ) → greatest p n ≡ Some level → Greatest p n level
 unfolding greatest
 greatest-is p zero level e = absurd (let z : ◌≡◌ {A = ℕ} 0 1 = cc in omega arith)
 greatest-is p (suc n) level e = go (greatest-is p n level) (p n) refl
   where
-    go : (greatest p n ≡ At level → Greatest p n level) → (t : Bool) → p n ≡ t → Greatest p (suc n) level
+    go : (greatest p n ≡ Some level → Greatest p n level) → (t : Bool) → p n ≡ t → Greatest p (suc n) level
     go lower true q =
-        let same : n ≡ level = cc (choose-true (p n) (At n) (greatest p n) q) in
+        let same : n ≡ level = cc (choose-true (p n) (Some n) (greatest p n) q) in
         record { few = omega arith; holds-there = ap p (sym same) ∙ q; not-above = λ k a b. absurd (omega arith) }
     go lower false q =
-        let r : Greatest p n level = lower (sym (choose-false (p n) (At n) (greatest p n) q) ∙ e) in
+        let r : Greatest p n level = lower (sym (choose-false (p n) (Some n) (greatest p n) q) ∙ e) in
         record { few = omega (arith, r.few); holds-there = r.holds-there; not-above = λ k a b. ⊎_elim (λ (s : k ≡ n). ap p s ∙ q) (λ (c : k < n). r.not-above k a c) (eq-or-lt_of_le (le_of_suc-le-suc b)) }
 
 pub none-holds : (p : ℕ → Bool) (n : ℕ) → greatest p n ≡ None → (k : ℕ) → k < n → p k ≡ false
@@ -58,8 +58,8 @@ none-holds p zero e k h = absurd (not-suc-le-zero h)
 none-holds p (suc n) e k h = go (none-holds p n) (p n) refl
   where
     go : (greatest p n ≡ None → (k : ℕ) → k < n → p k ≡ false) → (t : Bool) → p n ≡ t → p k ≡ false
-    go lower true q = absurd (let z : ◌≡◌ {A = ℕ} 0 1 = cc (choose-true (p n) (At n) (greatest p n) q) in omega arith)
-    go lower false q = ⊎_elim (λ (s : k ≡ n). ap p s ∙ q) (λ (b : k < n). lower (sym (choose-false (p n) (At n) (greatest p n) q) ∙ e) k b) (eq-or-lt_of_le (le_of_suc-le-suc h))
+    go lower true q = absurd (let z : ◌≡◌ {A = ℕ} 0 1 = cc (choose-true (p n) (Some n) (greatest p n) q) in omega arith)
+    go lower false q = ⊎_elim (λ (s : k ≡ n). ap p s ∙ q) (λ (b : k < n). lower (sym (choose-false (p n) (Some n) (greatest p n) q) ∙ e) k b) (eq-or-lt_of_le (le_of_suc-le-suc h))
 
 -- ---- equal numbers are each at most the other
 swapped : (s t : Bool) (a b : ℕ) → levels s a t b ≡ true → levels t b s a ≡ true
@@ -107,15 +107,9 @@ abbrev below : Float → ℕ → Bool
 below x level = le (modulus_at level) x
 
 -- the code's test of the two ends
-pub ends : (x a b : Float) (t : Bool) → a ≡ modulus_at 0 → b ≡ modulus_at 1000 → not (le a x && le x b) ≡ not t → inside x ≡ t
+pub ends : (x a b : Float) (t : Bool) → a ≡ modulus_at 0 → b ≡ modulus_at 1000 → (le a x && le x b) ≡ t → inside x ≡ t
 unfolding inside
-ends x a b t e f h = sym (λ i. le (e i) x && le x (f i)) ∙ flip (le a x && le x b) t h
-  where
-    flip : (a b : Bool) → not a ≡ not b → a ≡ b
-    flip true true h = refl
-    flip true false h = sym h
-    flip false true h = sym h
-    flip false false h = refl
+ends x a b t e f h = sym (λ i. le (e i) x && le x (f i)) ∙ h
 
 -- a modulus above x has only such above it
 pub above : (x : Float) (j : ℕ) → below x j ≡ false → (k : ℕ) → j ≤ k → k < 1001 → below x k ≡ false
@@ -125,15 +119,22 @@ above x j e k h few = go (below x k) refl
     go true q = sym (is_true (below x j) (le_transitive (modulus_at j) (modulus_at k) x (at_least j k h few) (holds (below x k) q))) ∙ e
     go false q = refl
 
-pub below-is : (x : Float) (level : ℕ) → inside x ≡ true → level < 1001 → below x level ≡ true → ((k : ℕ) → level < k → k < 1001 → below x k ≡ false) → At level ≡ level_below x
+pub below-is : (x : Float) (level : ℕ) → inside x ≡ true → level < 1001 → below x level ≡ true → ((k : ℕ) → level < k → k < 1001 → below x k ≡ false) → Some level ≡ level_below x
 unfolding level_below
 below-is x level i few e over = sym (choose-true (inside x) (greatest (below x) 1001) None i ∙ greatest-at (below x) 1001 level few e over)
+
+-- the levels below n, and no other, have a modulus that is not above x
+pub below-first : (x : Float) (n : ℕ) → inside x ≡ true → n ≤ 1001 → ((k : ℕ) → k < n → below x k ≡ true) → ((k : ℕ) → n ≤ k → k < 1001 → below x k ≡ false) → Some (n - 1) ≡ level_below x
+unfolding inside
+below-first x n i few under over =
+    let some : 0 < n = ⊎_elim (λ (h : n ≤ 0). never (both (below x 0) _ i).0 (over 0 h (omega arith))) (λ (h : 0 < n). h) (le-or-lt n 0) in
+    below-is x (n - 1) i (omega arith) (under (n - 1) (omega arith)) (λ k a b. over k (omega arith) b)
 
 pub below_none : (x : Float) → inside x ≡ false → None ≡ level_below x
 unfolding level_below
 below_none x e = sym (choose-false (inside x) (greatest (below x) 1001) None e)
 
-found_below : (x : Float) (level : ℕ) → level_below x ≡ At level → Greatest (below x) 1001 level
+found_below : (x : Float) (level : ℕ) → level_below x ≡ Some level → Greatest (below x) 1001 level
 unfolding level_below
 found_below x level e = go (inside x) refl
   where
@@ -141,7 +142,7 @@ found_below x level e = go (inside x) refl
     go true q = greatest-is (below x) 1001 level (sym (choose-true (inside x) (greatest (below x) 1001) None q) ∙ e)
     go false q = absurd (let z : ◌≡◌ {A = ℕ} 0 1 = cc (choose-false (inside x) (greatest (below x) 1001) None q) in omega arith)
 
-pub greatest-below : (x : Float) (level : ℕ) → level_below x ≡ At level → GreatestBelow x level
+pub greatest-below : (x : Float) (level : ℕ) → level_below x ≡ Some level → GreatestBelow x level
 greatest-below x level e =
     let r : Greatest (below x) 1001 level = found_below x level e in
     record { few = r.few; not-above = r.holds-there; next-above = λ k h b. not-below k b (r.not-above k h b) (le-number (modulus_at level) x (holds (below x level) r.holds-there)) (lt x (modulus_at k)) refl }
@@ -191,18 +192,18 @@ eq-below m k e = go (has m k) refl
     go true q = sym (is_true (below m k) (eq-le (modulus_at k) m q)) ∙ e
     go false q = refl
 
-pub with-is : (m : Float) (level : ℕ) → level < 1001 → has m level ≡ true → At level ≡ level_with m
+pub with-is : (m : Float) (level : ℕ) → level < 1001 → has m level ≡ true → Some level ≡ level_with m
 unfolding level_with
 with-is m level few e = sym (greatest-at (has m) 1001 level few e (λ k h b. eq-below m k (has-not-above m level e k h b)))
 
 -- no level has a modulus that its greatest below has not
-pub with_none : (m : Float) (level : ℕ) → level_below m ≡ At level → has m level ≡ false → None ≡ level_with m
+pub with_none : (m : Float) (level : ℕ) → level_below m ≡ Some level → has m level ≡ false → None ≡ level_with m
 unfolding level_with
 with_none m level e differs = sym (greatest-none (has m) 1001 (λ k few. go k few (has m k) refl))
   where
     go : (k : ℕ) → k < 1001 → (t : Bool) → has m k ≡ t → t ≡ false
     go k few true q =
-        let is : At level ≡ At k = sym e ∙ sym (below-is m k (has-inside m k few q) few (is_true (below m k) (eq-le (modulus_at k) m q)) (has-not-above m k q)) in
+        let is : Some level ≡ Some k = sym e ∙ sym (below-is m k (has-inside m k few q) few (is_true (below m k) (eq-le (modulus_at k) m q)) (has-not-above m k q)) in
         let same : level ≡ k = cc in
         sym q ∙ ap (has m) (sym same) ∙ differs
     go k few false q = refl
@@ -216,7 +217,7 @@ with-outside m e = sym (greatest-none (has m) 1001 (λ k few. go k few (has m k)
     go k few false q = refl
 
 -- "from any of these 1,001 the way there and back is the same level"
-pub there_and_back : (level : ℕ) → level < 1001 → level_with (modulus_at level) ≡ At level
+pub there_and_back : (level : ℕ) → level < 1001 → level_with (modulus_at level) ≡ Some level
 there_and_back level few = sym (with-is (modulus_at level) level few (eq-itself (modulus_at level) (at_least level level (omega arith) few)))
 
 pub back : Back

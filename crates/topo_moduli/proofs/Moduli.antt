@@ -10,9 +10,11 @@ use lib.ListN.{length, get_or}
 use lib.Ieee.{Float, nan, binary64, fits, is_nan, to_bits, of_bits, lt, le, mul, div, add, sub, of_int}
 use lib.Ieee.Bits.{of_bits-to_bits, is_true}
 use lib.Ieee.Fits.{mul-fits, and_l, and_r}
+use Rattle.std.specs.List.Sorted.{IsPartitionedBy, IsPartitionPoint}
+use Rattle.lists.proofs.Laws.{get_or_any}
 use Rattle.ieee.proofs.Order.{le_reflexive, le_transitive, le-number, le_not_lt}
 use Rattle.ieee.proofs.Bounds.{lt-le, not-lt-le}
-use Rattle.ieee.proofs.Basic.{lt-left}
+use Rattle.ieee.proofs.Basic.{lt-left, holds}
 use Rattle.topo.specs.Levels.{modulus_of, density_of}
 use Rattle.topo_moduli.specs.Moduli.{modulus_at}
 use Rattle.topo_moduli.proofs.Patterns.{patterns}
@@ -99,3 +101,29 @@ rising a b h few = go (lt (modulus_at a) (modulus_at b)) refl
         let back : T (le (modulus_at b) (modulus_at a)) = not-lt-le (modulus_at a) (modulus_at b) (modulus-number a (omega arith)) (modulus-number b few) e in
         let after : T (le (modulus_at (suc a)) (modulus_at a)) = le_transitive (modulus_at (suc a)) (modulus_at b) (modulus_at a) (at_least (suc a) b h few) back in
         sym (le_not_lt (modulus_at (suc a)) (modulus_at a) after) ∙ is_true (lt (modulus_at a) (modulus_at (suc a))) (next-above a (omega arith))
+
+-- ---- the table
+abbrev pub moduli : List Float
+moduli = map (of_bits binary64) patterns
+
+pub length-moduli : length moduli ≡ 1001
+unfolding patterns
+length-moduli = refl
+
+pub at_level : (level : ℕ) (d : Float) → level < 1001 → get_or moduli level d ≡ modulus_at level
+at_level level d h = get_or_any moduli level d nan (omega (arith, length-moduli)) ∙ entry level h
+
+-- those that are not above x come first
+pub parted : (x : Float) → IsPartitionedBy (λ y. le y x) moduli
+parted x i j d h lt e =
+    let few : j < 1001 = omega (arith, length-moduli) in
+    let f : le (modulus_at j) x ≡ true = sym (ap (λ (y : Float). le y x) (at_level j d few)) ∙ e in
+    ap (λ (y : Float). le y x) (at_level i d (omega arith))
+    ∙ is_true (le (modulus_at i) x) (le_transitive (modulus_at i) (modulus_at j) x (at_least i j h few) (holds (le (modulus_at j) x) f))
+
+module _ (x : Float) (n : ℕ) (few : n ≤ 1001) (h : IsPartitionPoint (λ y. le y x ≡ true) (λ y. le y x ≡ false) moduli n) where
+  pub not-above : (k : ℕ) → k < n → le (modulus_at k) x ≡ true
+  not-above k lt = sym (ap (λ (y : Float). le y x) (at_level k nan (omega arith))) ∙ h.0 k nan (omega arith) lt
+
+  pub all-above : (k : ℕ) → n ≤ k → k < 1001 → le (modulus_at k) x ≡ false
+  all-above k le' lt = sym (ap (λ (y : Float). le y x) (at_level k nan lt)) ∙ h.1 k nan le' (omega (arith, length-moduli))

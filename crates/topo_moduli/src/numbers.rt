@@ -2,8 +2,6 @@
 ghost use Rattle.std.specs.Prelude.{◌≡◌};
 ghost use Rattle.topo_moduli.specs.Moduli.{numbers_of};
 
-use crate::Level;
-
 #[repr(C)]
 #[derive(Clone, Copy)]
 pub struct LevelNumbers {
@@ -13,14 +11,25 @@ pub struct LevelNumbers {
     pub level: u16,
 }
 
-pub fn numbers(found: Level) -> LevelNumbers
+impl From<Option<u16>> for LevelNumbers {
+    ghost from_gives = { λ found n. n ≡ numbers_of found };
+
+    fn from(found: Option<u16>) -> LevelNumbers
+        ensures { result ≡ numbers_of found }
+    {
+        match found {
+            Some(level) => LevelNumbers { refused: 0, level },
+            None => LevelNumbers {
+                refused: 29,
+                level: 0,
+            },
+        }
+    }
+}
+
+// It goes when nobody calls it.
+pub fn numbers(found: Option<u16>) -> LevelNumbers
     ensures { result ≡ numbers_of found }
 {
-    match found {
-        Level::At(level) => LevelNumbers { refused: 0, level },
-        Level::None => LevelNumbers {
-            refused: 29,
-            level: 0,
-        },
-    }
+    LevelNumbers::from(found)
 }

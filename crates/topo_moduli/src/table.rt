@@ -1,8 +1,9 @@
 // The moduli of all 1,001 levels for material 1.
-ghost use Rattle.std.specs.Prelude.{◌≡◌, ◌<◌};
+ghost use Rattle.std.specs.Prelude.{◌≡◌, ◌<◌, ◌≤◌, ℕ, true, false};
+ghost use Rattle.std.specs.Float.Ieee.{le};
 ghost use Rattle.topo_moduli.specs.Moduli.{modulus_at};
 
-const MODULI: [f64; 1001] = [
+static MODULI: [f64; 1001] = [
     1e-09,
     1.9999999990000004e-09,
     8.999999992000002e-09,
@@ -1011,4 +1012,13 @@ pub fn modulus_at(level: usize) -> f64
     ensures { result ≡ modulus_at level }
 {
     MODULI[level]
+}
+
+// How many levels have a modulus that is not above x: those from 0 on, since the moduli rise.
+pub fn not_above(x: f64) -> usize
+    ensures within { result ≤ 1001 }
+    ensures below { (k : ℕ) → k < result → le (modulus_at k) x ≡ true }
+    ensures above { (k : ℕ) → result ≤ k → k < 1001 → le (modulus_at k) x ≡ false }
+{
+    MODULI.partition_point(|m| *m <= x)
 }

@@ -2,7 +2,7 @@
 use Prim.Native.Nat.{◌-◌, ◌≤◌}
 use Rattle.filter_group.proofs.leans.Given as goal
 use Rattle.filter_group.specs.Group.{unit, skew}
-use Rattle.lent.specs.Points.{plane}
+use Rattle.geom.specs.Points.{plane}
 use Rattle.lists.specs.Lists.{any_to}
 use lib.ListN.{get_or}
 use mathlib.Core.List.{[]}

@@ -2,7 +2,7 @@
 use Rattle.filter_look.proofs.Looks.{dist-is, far, looked-past, looked-met}
 use Rattle.filter_look.proofs.look.Goals as goal
 use Rattle.geom.specs.Vectors.{dist}
-use Rattle.lent.specs.Points.{point}
+use Rattle.geom.specs.Points.{point}
 use Rattle.lists.proofs.Bools.{and-left-false, and-right-false, and-true}
 use lib.Ieee.{Float, binary64, sub, lt}
 use lib.ListN.{get_or}

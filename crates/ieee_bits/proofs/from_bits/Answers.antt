@@ -2,13 +2,13 @@
 use Rattle.ieee_bits.proofs.Patterns.{above-nan, below_nan}
 use Rattle.ieee_bits.proofs.from_bits.Goals as goal
 use lib.Dec.{T}
-use lib.Ieee.{of_bits, div}
+use lib.Ieee.{of_bits}
 use mathlib.Core.Bool.{Bool, not}
 use mathlib.Core.Path.{sym, subst}
 
-pub returns-then-b-gt9218868437227405312 : goal.returns-then-b-gt9218868437227405312
-unfolding of_bits div
-returns-then-b-gt9218868437227405312 c = sym (above-nan c.args.b c.if-b-gt9218868437227405312.true)
+pub returns-then-b-gt-INFINITY : goal.returns-then-b-gt-INFINITY
+unfolding of_bits
+returns-then-b-gt-INFINITY c = sym (above-nan c.args.b c.if-b-gt-INFINITY.true)
 
 pub float_from_bits-result : goal.float_from_bits-result
-float_from_bits-result c = subst (λ (t : Bool). T (not t)) (sym (below_nan c.args.b c.if-b-gt9218868437227405312.false)) tt
+float_from_bits-result c = subst (λ (t : Bool). T (not t)) (sym (below_nan c.args.b c.if-b-gt-INFINITY.false)) tt

@@ -1,13 +1,9 @@
--- `ieee_bits::to_bits` meets its contract: only a NaN differs from itself. Assumes nothing.
-use Rattle.ieee.proofs.Comparing.{holds, number}
+-- `ieee_bits::to_bits` meets its contract: a NaN's pattern is that of the one NaN. Assumes nothing.
+use Rattle.ieee_bits.proofs.Patterns.{nan_of}
 use Rattle.ieee_bits.proofs.to_bits.Goals as goal
-use lib.Ieee.Compare.{differs_from_itself}
 use lib.Ieee.{binary64, to_bits}
-use mathlib.Core.Path.{sym, ap}
+use mathlib.Core.Path.{sym, ap, ◌∙◌}
 
-pub returns-then-x : goal.returns-then-x
+pub returns-then-is_nan : goal.returns-then-is_nan
 unfolding to_bits
-returns-then-x c = ap (to_bits binary64) (sym (differs_from_itself c.args.x (holds c.if-x.true)))
-
-pub float_to_bits-result : goal.float_to_bits-result
-float_to_bits-result c = number c.args.x c.if-x.false
+returns-then-is_nan c = ap (to_bits binary64) (sym (nan_of c.args.x (sym c.is_nan.ensures.value ∙ c.if-is_nan.true)))

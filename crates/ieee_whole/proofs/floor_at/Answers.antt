@@ -29,9 +29,9 @@ pub returns-then-u-y : goal.returns-then-u-y
 unfolding of_bits neg
 returns-then-u-y c = neg-over c.args.x c.if-x.true c.if-x-2.false c.if-x-3.true c.truncating_f64_to_u64-u.result c.truncating_f64_to_u64-u.ensures (omega arith) c.if-u-y.true
 
-pub returns-then-u-lt9007199254740992 : goal.returns-then-u-lt9007199254740992
+pub returns-then-u-lt-WHOLE : goal.returns-then-u-lt-WHOLE
 unfolding of_bits neg
-returns-then-u-lt9007199254740992 c = neg-even c.args.x c.if-x.true c.if-x-2.false c.if-x-3.true c.truncating_f64_to_u64-u.result c.truncating_f64_to_u64-u.ensures (omega arith) c.if-u-y.false
+returns-then-u-lt-WHOLE c = neg-even c.args.x c.if-x.true c.if-x-2.false c.if-x-3.true c.truncating_f64_to_u64-u.result c.truncating_f64_to_u64-u.ensures (omega arith) c.if-u-y.false
 
 pub overflow_sub-result-then-x-3 : goal.overflow_sub-result-then-x-3
 unfolding of_bits neg

@@ -5,27 +5,7 @@ use Rattle.region_farthest.proofs.Farthest.{far-is}
 use Rattle.region_farthest.specs.Farthest.{faces_of, is_corner, whole_tree}
 use Rattle.region_tree.specs.Tree.{tree_of}
 use lib.ListN.{length}
-use mathlib.Core.Bool.{false}
 use mathlib.Core.Path.{◌≡◌, sym, ap, ◌∙◌}
-use native.Mathlib.Omega.{arith}
-
-pub mark-requires : goal.mark-requires
-mark-requires c = c.clear.ensures ∙ ap (tabulate (λ k. false)) (sym c.clear.auto.seen)
-
-pub build-requires : goal.build-requires
-build-requires c = let len = c.number.auto.order ∙ c.requires.order-fit in
-    record {
-      some = omega (arith, len, c.requires.some);
-      room = omega (arith, len, c.requires.scratch-fit);
-      places = c.requires.boxes-fit ∙ sym len;
-      keys-x = c.keys.ensures.0;
-      keys-y = c.keys.ensures.1;
-      keys-z = c.keys.ensures.2;
-    }
-
-pub farthest-requires : goal.farthest-requires
-farthest-requires c = let len = c.build.auto.order ∙ c.number.auto.order ∙ c.requires.order-fit in
-    (omega (arith, len, c.requires.some), c.build.auto.boxes ∙ c.requires.boxes-fit ∙ sym len, c.mark.auto.seen ∙ c.clear.auto.seen ∙ c.requires.seen-fit)
 
 pub returns : goal.returns
 unfolding whole_tree
@@ -36,5 +16,5 @@ returns c = let a = c.args in
     let eN = c.number.auto.order ∙ e in
     let eO = c.number.ensures ∙ ap (tabulate (λ k. k)) e in
     let eT = c.build.ensures ∙ (λ i. tree_of (c.gather.ensures i) (eN i) (eO i)) in
-    let eS = c.mark.ensures ∙ ap (tabulate (is_corner tris)) (c.clear.auto.seen ∙ c.requires.seen-fit) in
+    let eS = c.mark.ensures ∙ ap (tabulate (is_corner tris)) c.requires.seen-fit in
     c.farthest.ensures ∙ far-is nodes tris a.mirror _ _ _ c.gather.ensures eT eS

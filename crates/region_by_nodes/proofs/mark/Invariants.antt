@@ -1,14 +1,10 @@
 -- `region_by_nodes::mark` meets its contract. The invariant: the marks of the elements passed are written. Assumes nothing.
-use Prim.Native.Nat.{◌-◌, ◌≤◌}
 use Rattle.lists.specs.Lists.{overwrite}
 use Rattle.region_by_nodes.proofs.mark.Given as goal
 use Rattle.region_by_nodes.specs.Steps.{any_flagged}
-use lib.ListN.{length, get_or}
+use lib.ListN.{get_or}
 use mathlib.Core.List.{[]}
 use mathlib.Core.Path.{◌≡◌}
 
 abbrev pub invariant-loop-e : goal.invariant-loop-e
-invariant-loop-e l = (l.e ≤ l.n) × (length l.marks ≡ length l.initial.marks) × (l.marks ≡ overwrite (λ i. any_flagged l.keep (get_or l.tets i [])) l.e l.initial.marks)
-
-abbrev pub decreases-loop-e : goal.decreases-loop-e
-decreases-loop-e l = l.n - l.e
+invariant-loop-e l = l.marks ≡ overwrite (λ i. any_flagged l.keep (get_or l.tets i [])) l.e l.initial.marks

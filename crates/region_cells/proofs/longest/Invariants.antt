@@ -1,5 +1,4 @@
 -- `region_cells::longest` meets its contract. The invariant: the longest side of the set's triangles passed. Assumes nothing.
-use Prim.Native.Nat.{◌-◌, ◌≤◌}
 use Rattle.lists.specs.Lists.{fold_to, choose, zero64}
 use Rattle.region_by_nodes.specs.Nodes.{in_set}
 use Rattle.region_cells.proofs.longest.Given as goal
@@ -9,7 +8,4 @@ use mathlib.Core.List.{[]}
 use mathlib.Core.Path.{◌≡◌}
 
 abbrev pub invariant-loop-t : goal.invariant-loop-t
-invariant-loop-t l = (l.t ≤ l.n) × (l.m ≡ fold_to (λ i w. choose (in_set l.surfaces l.starts l.kept l.s i) (longer (corners_of l.nodes (get_or l.tris i [])) w) w) zero64 l.t)
-
-abbrev pub decreases-loop-t : goal.decreases-loop-t
-decreases-loop-t l = l.n - l.t
+invariant-loop-t l = l.m ≡ fold_to (λ i w. choose (in_set l.b.surfaces.now l.b.starts.now l.b.kept.now l.s i) (longer (corners_of l.nodes (get_or l.b.tris.now i [])) w) w) zero64 l.t

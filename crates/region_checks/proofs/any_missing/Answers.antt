@@ -1,19 +1,14 @@
--- `region_checks::any_missing` meets its contract. The loop's invariant: what is found among the triangles passed. Assumes nothing.
-use Rattle.lists.proofs.Laws.{any_none, any_step}
-use Rattle.lists.specs.Lists.{any_to}
+-- `region_checks::any_missing` meets its contract: the chain's test of each triangle is the definition's by index. Assumes nothing.
+use Rattle.std.proofs.Common.{rules, tests, ◌∙◌, [], length, refl}
+use Rattle.std.proofs.lemmas.Iterator.{YieldsList-from_slice}
+use Rattle.std.proofs.lemmas.Iterator.Search.{any_from_yields_List}
+use Rattle.region_checks.proofs.Any.{any_of}
 use Rattle.region_checks.proofs.any_missing.Goals as goal
-use Rattle.region_checks.specs.Boundary.{any_missing}
-use mathlib.Core.Bool.{◌||◌}
-use mathlib.Core.Path.{ap, sym, ◌∙◌}
-use native.Mathlib.Nat.{le_antisymm}
-use native.Mathlib.Omega.{arith}
-
-pub loop-i-init : goal.loop-i-init
-loop-i-init c = (omega arith, sym (any_none _))
-
-pub loop-i-preserved : goal.loop-i-preserved
-loop-i-preserved c = (omega arith, (λ i. c.loop-i.invariant.1 i || c.missing-found.ensures i) ∙ any_step _ _)
+use Rattle.region_checks.specs.Boundary.{missing_in, any_missing}
 
 pub returns : goal.returns
 unfolding any_missing
-returns c = c.loop-i.invariant.1 ∙ ap (any_to _) (le_antisymm c.loop-i.invariant.0 c.loop-i-test.false)
+returns c =
+    let tris = c.args.tris.now in
+    any_from_yields_List (missing_in c.args.n) _ _ _ c.any.ensures.ran (YieldsList-from_slice tris cc) (λ x b q k. search (rules, tests))
+    ∙ any_of (missing_in c.args.n) tris [] (length tris) refl

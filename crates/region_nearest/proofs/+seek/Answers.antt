@@ -1,86 +1,106 @@
 -- `region_nearest::seek` meets its contract, by recursion on the length of the part. Assumes nothing.
 use mathlib.Core.Path.{sym, ap, ◌∙◌}
-use mathlib.Core.Bool.{◌||◌}
 use mathlib.Core.List.{List}
 use Prim.Native.Nat.{◌/◌}
-use native.Mathlib.Omega.{arith}
 use lib.Ieee.{Float, le}
 use lib.ListN.{length, take, drop}
 use Rattle.geom.specs.Vectors.{vec}
+use Rattle.lists.proofs.Laws.{choose-true, choose-false}
+use Rattle.region_tree.specs.declared.Bounds.{Bounds}
 use Rattle.region_tree.specs.Steps.{bounds_at, tree_in}
 use Rattle.region_nearest.specs.Nearest.{gap_of, at_leaf, search_in}
-use Rattle.region_nearest.proofs.Searches.{to_end, read_low, read-high, passes, at_leaf_lem, low_first, high-first}
+use Rattle.region_nearest.proofs.Searches.{read_low, read-high, passes, at_leaf_lem, low_first, high-first, stops, goes-on}
 use Rattle.region_nearest.proofs.+seek.Goals as goal
 
-pub returns-then-s-g : goal.returns-then-s-g
-returns-then-s-g t c =
+pub returns-then-g-best : goal.returns-then-g-best
+returns-then-g-best t c =
     let a = c.args in
-    passes a.o.now a.b.now a.faces.now (vec a.x a.y a.z) a.enough a.s (sym (λ i. a.s.stopped || le a.s.best (c.requires.away i)) ∙ c.if-s-g.true)
+    passes a.tree.order.now a.tree.boxes.now a.tree.faces.now (vec a.x a.y a.z) a.enough a.best (sym (λ i. le a.best (c.requires.away i)) ∙ c.if-g-best.true)
+
+pub returns-then-best-enough : goal.returns-then-best-enough
+returns-then-best-enough t c =
+    let a = c.args in
+    let test = sym (λ i. le a.best (c.requires.away i)) ∙ c.if-g-best.false in
+    sym (choose-true _ _ _ c.if-best-enough.true)
+    ∙ (λ i. at_leaf a.tree.faces.now (vec a.x a.y a.z) a.enough (c.least-best.ensures i))
+    ∙ at_leaf_lem a.tree.order.now a.tree.boxes.now a.tree.faces.now (vec a.x a.y a.z) a.enough a.best test c.if-n-le4.true
 
 pub returns-then-n-le4 : goal.returns-then-n-le4
 returns-then-n-le4 t c =
     let a = c.args in
-    let test = sym (λ i. a.s.stopped || le a.s.best (c.requires.away i)) ∙ c.if-s-g.false in
-    (λ i. at_leaf a.faces.now (vec a.x a.y a.z) a.enough (c.least-best.ensures i))
-    ∙ at_leaf_lem a.o.now a.b.now a.faces.now (vec a.x a.y a.z) a.enough a.s test c.if-n-le4.true
+    let test = sym (λ i. le a.best (c.requires.away i)) ∙ c.if-g-best.false in
+    sym (choose-false _ _ _ c.if-best-enough.false)
+    ∙ (λ i. at_leaf a.tree.faces.now (vec a.x a.y a.z) a.enough (c.least-best.ensures i))
+    ∙ at_leaf_lem a.tree.order.now a.tree.boxes.now a.tree.faces.now (vec a.x a.y a.z) a.enough a.best test c.if-n-le4.true
 
 -- ---- the lower half first
 
-pub returns-then-first-high : goal.returns-then-first-high
-returns-then-first-high t c =
-    let a = c.args in
-    let o = a.o.now in
-    let b = a.b.now in
-    let h = length o / 2 in
-    let test = sym (λ i. a.s.stopped || le a.s.best (c.requires.away i)) ∙ c.if-s-g.false in
-    let first = c.seek-first.result in
-    let far = c.gap-high.ensures ∙ ap (λ (v : List Float). gap_of (bounds_at v) (vec a.x a.y a.z)) (sym (read-high o b)) in
-    passes (drop h o) (drop h b) a.faces.now (vec a.x a.y a.z) a.enough first (sym (λ i. first.stopped || le first.best (far i)) ∙ c.if-first-high.true)
-    ∙ (λ i. search_in a.faces.now (vec a.x a.y a.z) a.enough (tree_in (drop h o) (drop h b)) (c.seek-first.ensures i))
-    ∙ low_first o b a.faces.now (vec a.x a.y a.z) a.enough a.s test c.if-n-le4.false (sym (λ i. le (c.gap-low.ensures i) (c.gap-high.ensures i)) ∙ c.if-low-high.true)
+pub returns-in_err-first : goal.returns-in_err-first
+returns-in_err-first t c =
+    let a = c.args in let p = vec a.x a.y a.z in let f = c.front.ensures in
+    let test = sym (λ i. le a.best (c.requires.away i)) ∙ c.if-g-best.false in
+    let low = c.gap-low.ensures ∙ ap (λ (v : Bounds). gap_of v p) c.from.ensures in
+    let high = c.gap-high.ensures ∙ ap (λ (v : Bounds). gap_of v p) c.from-2.ensures in
+    low_first a.tree.order.now a.tree.boxes.now a.tree.faces.now p a.enough a.best test c.if-n-le4.false c.gap-low.result c.gap-high.result low high c.if-low-high.true c.seek.result _
+    (c.seek.ensures ∙ (λ i. search_in (f.faces i) p a.enough (tree_in (f.order i) (f.boxes i)) a.best))
+    (stops _ _ _ _ c.in_err-first.was c.from_residual.ensures)
+
+pub returns-then-high-first : goal.returns-then-high-first
+returns-then-high-first t c =
+    let a = c.args in let o = a.tree.order.now in let b = a.tree.boxes.now in let h = length o / 2 in let p = vec a.x a.y a.z in let f = c.front.ensures in
+    let test = sym (λ i. le a.best (c.requires.away i)) ∙ c.if-g-best.false in
+    let low = c.gap-low.ensures ∙ ap (λ (v : Bounds). gap_of v p) c.from.ensures in
+    let high = c.gap-high.ensures ∙ ap (λ (v : Bounds). gap_of v p) c.from-2.ensures in
+    let first = c.in_ok-first.first in
+    let far = high ∙ ap (λ (v : List Float). gap_of (bounds_at v) p) (sym (read-high o b)) in
+    low_first o b a.tree.faces.now p a.enough a.best test c.if-n-le4.false c.gap-low.result c.gap-high.result low high c.if-low-high.true c.seek.result _
+    (c.seek.ensures ∙ (λ i. search_in (f.faces i) p a.enough (tree_in (f.order i) (f.boxes i)) a.best))
+    (passes (drop h o) (drop h b) a.tree.faces.now p a.enough first (sym (λ i. le first (far i)) ∙ c.if-high-first.true)
+    ∙ goes-on (search_in a.tree.faces.now p a.enough (tree_in (drop h o) (drop h b))) _ _ c.in_ok-first.was)
 
 pub returns-then-low-high : goal.returns-then-low-high
 returns-then-low-high t c =
-    let a = c.args in
-    let o = a.o.now in
-    let b = a.b.now in
-    let n = length o in
-    let h = n / 2 in
-    let test = sym (λ i. a.s.stopped || le a.s.best (c.requires.away i)) ∙ c.if-s-g.false in
-    let eo = to_end n h o (omega arith) in
-    let eb = to_end n h b (omega (arith, c.requires.places)) in
-    c.seek.ensures
-    ∙ (λ i. search_in a.faces.now (vec a.x a.y a.z) a.enough (tree_in (eo i) (eb i)) (c.seek-first.ensures i))
-    ∙ low_first o b a.faces.now (vec a.x a.y a.z) a.enough a.s test c.if-n-le4.false (sym (λ i. le (c.gap-low.ensures i) (c.gap-high.ensures i)) ∙ c.if-low-high.true)
+    let a = c.args in let o = a.tree.order.now in let b = a.tree.boxes.now in let h = length o / 2 in let p = vec a.x a.y a.z in let f = c.front.ensures in let k = c.back.ensures in
+    let test = sym (λ i. le a.best (c.requires.away i)) ∙ c.if-g-best.false in
+    let low = c.gap-low.ensures ∙ ap (λ (v : Bounds). gap_of v p) c.from.ensures in
+    let high = c.gap-high.ensures ∙ ap (λ (v : Bounds). gap_of v p) c.from-2.ensures in
+    low_first o b a.tree.faces.now p a.enough a.best test c.if-n-le4.false c.gap-low.result c.gap-high.result low high c.if-low-high.true c.seek.result _
+    (c.seek.ensures ∙ (λ i. search_in (f.faces i) p a.enough (tree_in (f.order i) (f.boxes i)) a.best))
+    (c.seek-then-low-high.ensures ∙ (λ i. search_in (k.faces i) p a.enough (tree_in (k.order i) (k.boxes i)) c.in_ok-first.first)
+    ∙ goes-on (search_in a.tree.faces.now p a.enough (tree_in (drop h o) (drop h b))) _ _ c.in_ok-first.was)
 
 -- ---- the upper half first
 
-pub returns-then-first-low : goal.returns-then-first-low
-returns-then-first-low t c =
-    let a = c.args in
-    let o = a.o.now in
-    let b = a.b.now in
-    let n = length o in
-    let h = n / 2 in
-    let test = sym (λ i. a.s.stopped || le a.s.best (c.requires.away i)) ∙ c.if-s-g.false in
-    let eo = to_end n h o (omega arith) in
-    let eb = to_end n h b (omega (arith, c.requires.places)) in
-    let first = c.seek-first-2.result in
-    let far = c.gap-low.ensures ∙ ap (λ (v : List Float). gap_of (bounds_at v) (vec a.x a.y a.z)) (sym (read_low o b c.if-n-le4.false)) in
-    passes (take h o) (take h b) a.faces.now (vec a.x a.y a.z) a.enough first (sym (λ i. first.stopped || le first.best (far i)) ∙ c.if-first-low.true)
-    ∙ (λ i. search_in a.faces.now (vec a.x a.y a.z) a.enough (tree_in (take h o) (take h b)) ((c.seek-first-2.ensures ∙ (λ j. search_in a.faces.now (vec a.x a.y a.z) a.enough (tree_in (eo j) (eb j)) a.s)) i))
-    ∙ high-first o b a.faces.now (vec a.x a.y a.z) a.enough a.s test c.if-n-le4.false (sym (λ i. le (c.gap-low.ensures i) (c.gap-high.ensures i)) ∙ c.if-low-high.false)
+pub returns-in_err-first-2 : goal.returns-in_err-first-2
+returns-in_err-first-2 t c =
+    let a = c.args in let p = vec a.x a.y a.z in let f = c.back-2.ensures in
+    let test = sym (λ i. le a.best (c.requires.away i)) ∙ c.if-g-best.false in
+    let low = c.gap-low.ensures ∙ ap (λ (v : Bounds). gap_of v p) c.from.ensures in
+    let high = c.gap-high.ensures ∙ ap (λ (v : Bounds). gap_of v p) c.from-2.ensures in
+    high-first a.tree.order.now a.tree.boxes.now a.tree.faces.now p a.enough a.best test c.if-n-le4.false c.gap-low.result c.gap-high.result low high c.if-low-high.false c.seek-2.result _
+    (c.seek-2.ensures ∙ (λ i. search_in (f.faces i) p a.enough (tree_in (f.order i) (f.boxes i)) a.best))
+    (stops _ _ _ _ c.in_err-first-2.was c.from_residual-in_err-first-2.ensures)
+
+pub returns-then-low-first : goal.returns-then-low-first
+returns-then-low-first t c =
+    let a = c.args in let o = a.tree.order.now in let b = a.tree.boxes.now in let h = length o / 2 in let p = vec a.x a.y a.z in let f = c.back-2.ensures in
+    let test = sym (λ i. le a.best (c.requires.away i)) ∙ c.if-g-best.false in
+    let low = c.gap-low.ensures ∙ ap (λ (v : Bounds). gap_of v p) c.from.ensures in
+    let high = c.gap-high.ensures ∙ ap (λ (v : Bounds). gap_of v p) c.from-2.ensures in
+    let first = c.in_ok-first-2.first in
+    let far = low ∙ ap (λ (v : List Float). gap_of (bounds_at v) p) (sym (read_low o b c.if-n-le4.false)) in
+    high-first o b a.tree.faces.now p a.enough a.best test c.if-n-le4.false c.gap-low.result c.gap-high.result low high c.if-low-high.false c.seek-2.result _
+    (c.seek-2.ensures ∙ (λ i. search_in (f.faces i) p a.enough (tree_in (f.order i) (f.boxes i)) a.best))
+    (passes (take h o) (take h b) a.tree.faces.now p a.enough first (sym (λ i. le first (far i)) ∙ c.if-low-first.true)
+    ∙ goes-on (search_in a.tree.faces.now p a.enough (tree_in (take h o) (take h b))) _ _ c.in_ok-first-2.was)
 
 pub returns : goal.returns
 returns t c =
-    let a = c.args in
-    let o = a.o.now in
-    let b = a.b.now in
-    let n = length o in
-    let h = n / 2 in
-    let test = sym (λ i. a.s.stopped || le a.s.best (c.requires.away i)) ∙ c.if-s-g.false in
-    let eo = to_end n h o (omega arith) in
-    let eb = to_end n h b (omega (arith, c.requires.places)) in
-    c.seek-2.ensures
-    ∙ (λ i. search_in a.faces.now (vec a.x a.y a.z) a.enough (tree_in (take h o) (take h b)) ((c.seek-first-2.ensures ∙ (λ j. search_in a.faces.now (vec a.x a.y a.z) a.enough (tree_in (eo j) (eb j)) a.s)) i))
-    ∙ high-first o b a.faces.now (vec a.x a.y a.z) a.enough a.s test c.if-n-le4.false (sym (λ i. le (c.gap-low.ensures i) (c.gap-high.ensures i)) ∙ c.if-low-high.false)
+    let a = c.args in let o = a.tree.order.now in let b = a.tree.boxes.now in let h = length o / 2 in let p = vec a.x a.y a.z in let f = c.back-2.ensures in let k = c.front-2.ensures in
+    let test = sym (λ i. le a.best (c.requires.away i)) ∙ c.if-g-best.false in
+    let low = c.gap-low.ensures ∙ ap (λ (v : Bounds). gap_of v p) c.from.ensures in
+    let high = c.gap-high.ensures ∙ ap (λ (v : Bounds). gap_of v p) c.from-2.ensures in
+    high-first o b a.tree.faces.now p a.enough a.best test c.if-n-le4.false c.gap-low.result c.gap-high.result low high c.if-low-high.false c.seek-2.result _
+    (c.seek-2.ensures ∙ (λ i. search_in (f.faces i) p a.enough (tree_in (f.order i) (f.boxes i)) a.best))
+    (c.seek-3.ensures ∙ (λ i. search_in (k.faces i) p a.enough (tree_in (k.order i) (k.boxes i)) c.in_ok-first-2.first)
+    ∙ goes-on (search_in a.tree.faces.now p a.enough (tree_in (take h o) (take h b))) _ _ c.in_ok-first-2.was)

@@ -3,4 +3,4 @@ use lib.ListN.{length}
 use Rattle.region_nearest.proofs.+seek.Given as goal
 
 abbrev pub decreases-seek : goal.decreases-seek
-decreases-seek l = length l.o.now
+decreases-seek l = length l.tree.order.now

@@ -5,41 +5,39 @@ use Prim.Native.Nat.{◌-◌, ◌/◌, ℕ}
 use native.Mathlib.Omega.{arith}
 use lib.ListN.{length, set}
 use Rattle.region_median.specs.Median.{rank_by, parted}
-use Rattle.region_tree.specs.Tree.{bounds_of, axis_of, tree_of}
-use Rattle.region_tree.specs.Steps.{along, stored, tree_in}
+use Rattle.region_tree.specs.Tree.{axis_of, keys_along, tree_of}
+use Rattle.region_tree.specs.declared.Axis.{Axis}
+use Rattle.region_tree.specs.Steps.{stored, tree_in}
 use Rattle.region_tree.proofs.Halves.{Lent, front_length, back_is, back-length, two_is}
-use Rattle.region_tree.proofs.Stored.{builds-leaf, builds-fork, keys-along}
+use Rattle.region_tree.proofs.Stored.{builds-leaf, builds-fork}
 use Rattle.region_tree.proofs.+build.Goals as goal
 
 pub returns-then-n-le4 : goal.returns-then-n-le4
 returns-then-n-le4 t c =
     let a = c.args in
-    (λ i. tree_in a.order.now (set a.boxes.now (length a.order.now / 2) (stored (c.bounds_of-b.ensures i))))
-    ∙ builds-leaf a.faces.now a.order.now a.boxes.now c.requires.some c.if-n-le4.true c.requires.places
+    (λ i. tree_in a.order.now (set a.boxes.now (length a.order.now / 2) ((c.from-own.ensures ∙ ap stored c.bounds_of-b.ensures) i)))
+    ∙ builds-leaf a.keyed.faces.now a.order.now a.boxes.now c.requires.some c.if-n-le4.true c.requires.places
 
 pub returns : goal.returns
 returns t c =
     let a = c.args in
-    let faces = a.faces.now in
+    let faces = a.keyed.faces.now in
     let l = a.order.now in
     let n = length l in
     let h = n / 2 in
-    let p = c.part_along in
+    let p = c.part in
     let low = c.build in
     let up = c.build-2 in
-    let order-lent : Lent p.new.order low.new.order h (n - h) =
-    record { within = omega (arith, p.auto.order); same = low.auto.order; left = omega (arith, p.auto.order) } in
-    let boxes-lent : Lent a.boxes.now low.new.boxes h (n - h) =
-    record { within = omega (arith, c.requires.places); same = low.auto.boxes; left = omega (arith, c.requires.places) } in
+    let order-lent : Lent p.new.order low.new.order h = record { within = omega (arith, p.auto.order); same = low.auto.order } in
+    let boxes-lent : Lent a.boxes.now low.new.boxes h = record { within = omega (arith, c.requires.places); same = low.auto.boxes } in
     let box = c.bounds_of-b.ensures in
-    let way = c.axis.ensures ∙ ap axis_of box in
-    let keys = (λ i. along (way i) (c.requires.keys-x i) (c.requires.keys-y i) (c.requires.keys-z i)) ∙ keys-along faces (bounds_of faces l) in
-    (λ i. tree_in (two_is order-lent up.new.order i) (set (two_is boxes-lent up.new.boxes i) h (stored (box i))))
+    let keys = c.along.ensures ∙ ap (λ (x : Axis). keys_along x faces) (c.longest.ensures ∙ ap axis_of box) in
+    (λ i. tree_in (two_is order-lent up.new.order i) (set (two_is boxes-lent up.new.boxes i) h ((c.from-own.ensures ∙ ap stored box) i)))
     ∙ builds-fork faces l p.new.order low.new.order up.new.order low.new.boxes up.new.boxes (omega (arith, c.if-n-le4.false))
     (p.ensures ∙ ap (λ (k : List ℕ). parted (rank_by k) l) keys)
     (front_length order-lent)
     (front_length boxes-lent)
-    (up.auto.order ∙ back-length order-lent)
-    (up.auto.boxes ∙ back-length boxes-lent)
+    (up.auto.order ∙ back-length order-lent ∙ ap (λ (k : ℕ). k - h) p.auto.order)
+    (up.auto.boxes ∙ back-length boxes-lent ∙ ap (λ (k : ℕ). k - h) c.requires.places)
     low.ensures
     (up.ensures ∙ ap (λ (x : List ℕ). tree_of faces (length x) x) (back_is order-lent))

@@ -1,13 +1,8 @@
--- `solve` meets its contract. Assumes nothing.
-use Prim.Native.Nat.{◌-◌, ◌≤◌}
+-- The energies of the elements passed are written.
+use Rattle.std.proofs.Common.{◌≡◌}
 use Rattle.lists.specs.Lists.{overwrite}
-use Rattle.shape_solver.proofs.solve.Given as goal
 use Rattle.shape_solver.specs.Energies.{energy_at}
-use lib.ListN.{length}
-use mathlib.Core.Path.{◌≡◌}
+use Rattle.shape_solver.proofs.solve.Given as goal
 
 abbrev pub invariant-loop-e : goal.invariant-loop-e
-invariant-loop-e l = (l.e ≤ length l.initial.energies) × (length l.energies ≡ length l.initial.energies) × (l.energies ≡ overwrite (energy_at l.weights l.density) l.e l.initial.energies)
-
-abbrev pub decreases-loop-e : goal.decreases-loop-e
-decreases-loop-e l = length l.initial.energies - l.e
+invariant-loop-e l = l.energies ≡ overwrite (energy_at l.weights l.density) l.e l.initial.energies

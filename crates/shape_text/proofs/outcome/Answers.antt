@@ -1,5 +1,6 @@
 -- `outcome` meets its contract. Assumes nothing.
 use Rattle.run_plain.specs.declared.Reply.{Reply}
+use Rattle.topo.specs.declared.Iteration.{Iteration}
 use Rattle.shape_report.proofs.Laws.{retext}
 use Rattle.shape_report.specs.Report.{text_of, ran}
 use Rattle.shape_text.proofs.outcome.Goals as goal
@@ -27,4 +28,10 @@ returns-in-Round c =
 pub returns-in-Stop : goal.returns-in-Stop
 returns-in-Stop c =
     let a = c.args in
-    retext (ap (λ (l : List Float). text_of (ran a.t.returned.state.compliances.solid (take a.t.returned.state.progress.rounds a.t.history) c.in-Stop.why l)) c.front.ensures ∙ ap (λ (q : Reply). text_of (outcome_by q a.t.returned.state a.t.history a.last.now)) (sym c.in-Stop.is)) c.ran.ensures
+    let solid = a.t.returned.state.compliances.solid in
+    let why = c.in-Stop.why in
+    retext
+    (ap (λ (l : List Iteration). text_of (ran solid l why c.front-in-Stop.result.now)) c.front.ensures
+    ∙ ap (λ (l : List Float). text_of (ran solid (take a.t.returned.state.progress.rounds a.t.history) why l)) c.front-in-Stop.ensures
+    ∙ ap (λ (q : Reply). text_of (outcome_by q a.t.returned.state a.t.history a.last.now)) (sym c.in-Stop.is))
+    c.ran.ensures

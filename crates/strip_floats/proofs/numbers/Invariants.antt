@@ -1,13 +1,7 @@
--- `numbers` meets its contract. The invariant: the places passed are overwritten. Assumes nothing.
-use Prim.Native.Nat.{◌-◌, ◌≤◌}
+use Rattle.std.proofs.Common.{◌≡◌}
 use Rattle.lists.specs.Lists.{overwrite}
-use Rattle.strip_floats.proofs.numbers.Given as goal
 use Rattle.strip_floats.specs.Floats.{float_at}
-use lib.ListN.{length}
-use mathlib.Core.Path.{◌≡◌}
+use Rattle.strip_floats.proofs.numbers.Given as goal
 
 abbrev pub invariant-loop-i : goal.invariant-loop-i
-invariant-loop-i l = (l.i ≤ l.n) × (length l.to ≡ length l.initial.to) × (l.to ≡ overwrite (float_at l.from) l.i l.initial.to)
-
-abbrev pub decreases-loop-i : goal.decreases-loop-i
-decreases-loop-i l = l.n - l.i
+invariant-loop-i l = l.to ≡ overwrite (float_at l.from) l.i l.initial.to

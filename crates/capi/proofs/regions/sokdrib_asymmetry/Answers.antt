@@ -1,6 +1,7 @@
 -- `sokdrib_asymmetry` meets its contract: that of `asymmetry`, with its answer by its numbers. Assumes nothing.
 use Rattle.capi.proofs.regions.sokdrib_asymmetry.Goals as goal
+use Rattle.refusal.specs.Refusals.{numbered}
 
 pub returns : goal.returns
-returns c = let d = c.asymmetry-d in
-    record { distance = d.result; numbers = c.distance_told.ensures; measured = d.ensures }
+returns c =
+    record { distance = numbered c.asymmetry.result; numbers = c.from.ensures; measured = c.asymmetry.ensures }

@@ -8,16 +8,16 @@ use mathlib.Core.Path.{sym, ◌∙◌}
 
 pub returns-then-marks-i : goal.returns-then-marks-i
 returns-then-marks-i c = let a = c.args in
-    marked-stays a.marks.now (get_or a.order.now a.k 0) _ c.if-marks-i.true
+    marked-stays a.marks.now (get_or a.middles.order.now a.k 0) _ c.if-marks-i.true
 
 pub returns-then-is_near : goal.returns-then-is_near
 unfolding seen_at near_at
-returns-then-is_near c = sym (choose-true _ _ _ (rw (sym c.in_column.ensures ∙ c.if-in_column.true) (sym c.is_near.ensures ∙ c.if-is_near.true)))
+returns-then-is_near c = sym (choose-true _ _ _ (rw (sym c.holds.ensures ∙ c.if-holds.true) (sym c.is_near.ensures ∙ c.if-is_near.true)))
 
 pub returns-else-is_near : goal.returns-else-is_near
 unfolding seen_at near_at
-returns-else-is_near c = sym (choose-false _ _ _ (rw (sym c.in_column.ensures ∙ c.if-in_column.true) (sym c.is_near.ensures ∙ c.if-is_near.false)))
+returns-else-is_near c = sym (choose-false _ _ _ (rw (sym c.holds.ensures ∙ c.if-holds.true) (sym c.is_near.ensures ∙ c.if-is_near.false)))
 
-pub returns-else-in_column : goal.returns-else-in_column
+pub returns-else-holds : goal.returns-else-holds
 unfolding seen_at
-returns-else-in_column c = sym (choose-false _ _ _ (rw (sym c.in_column.ensures ∙ c.if-in_column.false)))
+returns-else-holds c = sym (choose-false _ _ _ (rw (sym c.holds.ensures ∙ c.if-holds.false)))

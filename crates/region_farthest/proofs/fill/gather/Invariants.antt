@@ -1,14 +1,10 @@
 -- `fill::gather` meets its contract. The loop's invariant: the triangles passed are gathered. Assumes nothing.
-use Prim.Native.Nat.{◌≤◌, ◌-◌}
 use Rattle.lists.specs.Lists.{overwrite}
 use Rattle.region_farthest.proofs.fill.gather.Given as goal
 use Rattle.region_farthest.specs.Farthest.{nine_of}
-use lib.ListN.{length, get_or}
+use lib.ListN.{get_or}
 use mathlib.Core.List.{[]}
 use mathlib.Core.Path.{◌≡◌}
 
 abbrev pub invariant-loop-i : goal.invariant-loop-i
-invariant-loop-i l = (l.i ≤ length l.tris) × (length l.faces ≡ length l.initial.faces) × (l.faces ≡ overwrite (λ k. nine_of l.nodes (get_or l.tris k [])) l.i l.initial.faces)
-
-abbrev pub decreases-loop-i : goal.decreases-loop-i
-decreases-loop-i l = length l.tris - l.i
+invariant-loop-i l = l.faces ≡ overwrite (λ k. nine_of l.nodes (get_or l.tris k [])) l.i l.initial.faces

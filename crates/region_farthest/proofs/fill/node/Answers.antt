@@ -1,5 +1,5 @@
 -- `fill::node` meets its contract. Assumes nothing.
-use Rattle.lent.specs.Points.{point}
+use Rattle.geom.specs.Points.{point}
 use Rattle.region_farthest.proofs.fill.node.Goals as goal
 use lib.Ieee.{div, of_bits}
 use lib.ListN.{get_or-eq_default}

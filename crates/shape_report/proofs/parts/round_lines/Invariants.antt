@@ -1,13 +1,8 @@
--- `round_lines` meets its contract: what is written is the first lines. Assumes nothing.
-use Prim.Native.Nat.{◌-◌, ◌≤◌, min}
-use Rattle.shape_report.proofs.parts.round_lines.Given as goal
-use Rattle.shape_report.specs.Report.{lines_from, round_line}
+-- What is written is the first lines.
+use Rattle.std.proofs.Common.{take}
+use Rattle.shape_report.specs.Report.{round_line, lines_from}
 use Rattle.shape_report.specs.Steps.{Wrote}
-use lib.ListN.{take}
-use mathlib.Core.Path.{◌≡◌}
+use Rattle.shape_report.proofs.parts.round_lines.Given as goal
 
-abbrev pub invariant-loop-i : goal.invariant-loop-i
-invariant-loop-i l = (l.i ≤ l.n) × (l.n ≡ min l.rounds 64) × Wrote (lines_from (λ k r. round_line r) 1 (take l.i l.history)) l.at l.initial.out l.out l.next
-
-abbrev pub decreases-loop-i : goal.decreases-loop-i
-decreases-loop-i l = l.n - l.i
+abbrev pub invariant-loop-r : goal.invariant-loop-r
+invariant-loop-r l = Wrote (lines_from (λ k r. round_line r) 1 (take l.r-index l.records)) l.at l.initial.out l.out l.next

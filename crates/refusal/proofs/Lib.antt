@@ -1,0 +1,2 @@
+-- `Numbers` has that no refusal's number is 0.
+pub mod Numbers

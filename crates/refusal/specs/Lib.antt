@@ -1,0 +1,2 @@
+-- `Refusals` has the number of each refusal.
+pub mod Refusals

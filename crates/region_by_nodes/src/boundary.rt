@@ -1,0 +1,14 @@
+// A boundary with kept sets of its surfaces.
+ghost use Rattle.std.specs.Prelude.{◌≤◌, ◌<◌, length};
+
+// Triangles, each with its surface, and the sets: set s has the surfaces kept[starts[s]] .. kept[starts[s + 1] - 1], and a depth.
+#[derive(Clone, Copy)]
+pub struct Boundary<'a> {
+    pub tris: &'a [[u32; 6]],
+    pub surfaces: &'a [u32],
+    pub starts: &'a [u32],
+    pub kept: &'a [u32],
+    pub depths: &'a [f64],
+    ghost surfaced: { length tris.now ≤ length surfaces.now },
+    ghost begun: { length depths.now < length starts.now },
+}
