@@ -1,9 +1,11 @@
 // The calls of a run over the structs of numbers of `c_numbers`, for `capi`.
 #![tactic(auto)]
 
+ghost use Rattle.run_plain.specs.Held.{core, working, SameFields, SameWork};
 ghost use Rattle.c_numbers.specs.Flat.{goal_of, heard_of, OpenedAs, AnsweredAs};
 
 use c_numbers::{RunGoal, RunHeard, RunReturned, RunState, RunStep};
+use run_plain::{Elements, Fields, Heard, State, Work};
 
 // `run_open::open_core`: an opening, the history having room for so many records.
 pub fn open(
@@ -37,9 +39,8 @@ pub fn open(
         (record { volumes = volumes.now; passive = passive.now; starts = starts.new; near = near.new; coef = coef.new; design = design.new; density = density.new; last = last.now })
         (record { cell = cell.new; order = order.new; first = first.new; sorted = sorted.new; stamp = stamp.new; weight = weight.new; found = found.new; bits = bits.new }) }
 {
-    let t = c_numbers::unknown(state) | c_numbers::no_goal(goal);
-    if t {
-        return c_numbers::refused(state);
+    if state.is_unknown() | goal.is_unknown() {
+        return state.refused();
     }
     let r = run_open::open_core(
         room,
@@ -74,48 +75,25 @@ pub fn answer(
     state: RunState,
     heard: RunHeard,
     energies: &[f64],
-    volumes: &[f64],
-    passive: &[bool],
-    starts: &[u32],
-    near: &[u32],
-    coef: &[f64],
-    design: &mut [f64],
-    density: &mut [f64],
-    last: &mut [f64],
-    free: &mut [f64],
-    slope: &mut [f64],
-    spare: &mut [f64],
-    dc: &mut [f64],
-    dv: &mut [f64],
+    elements: Elements,
+    fields: &mut Fields,
+    work: &mut Work,
 ) -> RunStep
-    ensures { AnsweredAs state (record { heard = heard_of heard; energies = energies.now }) room
-        (record { volumes = volumes.now; passive = passive.now; starts = starts.now; near = near.now; coef = coef.now; design = design.old; density = density.old; last = last.old })
-        (record { free = free.old; slope = slope.old; spare = spare.old; dc = dc.old; dv = dv.old })
-        result
-        (record { volumes = volumes.now; passive = passive.now; starts = starts.now; near = near.now; coef = coef.now; design = design.new; density = density.new; last = last.new })
-        (record { free = free.new; slope = slope.new; spare = spare.new; dc = dc.new; dv = dv.new }) }
+    ensures answered { AnsweredAs state (record { heard = heard_of heard; energies = energies.now }) room (core elements.entry fields.old) (working work.old) result (core elements.entry fields.new) (working work.new) }
+    ensures same_fields { SameFields fields.old fields.new }
+    ensures same_work { SameWork work.old work.new }
 {
-    if c_numbers::unknown(state) {
-        return c_numbers::unrecorded(room, state);
+    if state.is_unknown() {
+        return state.unrecorded(room);
     }
-    let s = run_answer::answer_core(
+    let step = run_answer::answer_core(
         room,
-        c_numbers::state_of(state),
-        c_numbers::heard_of(heard),
+        State::from(state),
+        Heard::from(heard),
         energies,
-        volumes,
-        passive,
-        starts,
-        near,
-        coef,
-        design,
-        density,
-        last,
-        free,
-        slope,
-        spare,
-        dc,
-        dv,
+        elements,
+        fields,
+        work,
     );
-    c_numbers::step_numbers(s)
+    RunStep::new(step, room, state.rounds)
 }

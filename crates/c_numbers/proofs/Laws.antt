@@ -17,8 +17,10 @@ use Rattle.run_plain.specs.declared.Returned.{Returned}
 use Rattle.run_plain.specs.declared.State.{State}
 use Rattle.run_plain.specs.Calls.{Core, Asked, Arguments}
 use Rattle.run_answer.specs.declared.Step.{Step}
-use Rattle.run_answer.specs.Answers.{Work, CoreAnswered}
-use Rattle.run_open_checks.specs.Opens.{Work as OpenWork, CoreOpened}
+use Rattle.run_plain.specs.Held.{Working as Work}
+use Rattle.run_answer.specs.Answers.{CoreAnswered}
+use Rattle.filter.specs.Build.{Working as OpenWork}
+use Rattle.run_open_checks.specs.Opens.{CoreOpened}
 use Rattle.c_numbers.specs.declared.RunState.{RunState}
 use Rattle.c_numbers.specs.declared.RunGoal.{RunGoal}
 use Rattle.c_numbers.specs.declared.RunReturned.{RunReturned}
@@ -42,7 +44,7 @@ opened_as s n t u q v f s' e given goal goal' d room l w returned r o w' numbers
     }
 
 pub answered_as : (s : RunState) (t : Bool) → t ≡ no_runs s → t ≡ false → (s' : State) → s' ≡ state_of s → (given : Heard → Arguments) (heard heard' : Heard) → heard ≡ heard'
-    → (room : ℕ) (l : Core) (w : Work) (step : Step) (r : RunStep) (o : Core) (w' : Work) → r ≡ step_numbers step → CoreAnswered s' (given heard) room l w step o w'
+    → (room : ℕ) (l : Core) (w : Work) (step : Step) (r : RunStep) (o : Core) (w' : Work) → r ≡ step_numbers room (state_of s).progress.rounds step → CoreAnswered s' (given heard) room l w step o w'
     → AnsweredAs s (given heard') room l w r o w'
 answered_as s t q f s' e given heard heard' d room l w step r o w' n h =
     record {

@@ -2,8 +2,10 @@
 #![tactic(auto)]
 
 ghost use Rattle.std.specs.Prelude.{◌≡◌};
-ghost use Rattle.c_update.specs.Numbers.{ending_number, ending_first, ending_second, told_of};
+ghost use Rattle.refusal.specs.Refusals.{number_of};
+ghost use Rattle.c_update.specs.Numbers.{ending_number, ending_first, ending_second, told_of, refused_with};
 
+use refusal::Refusal;
 use topo::Ending;
 use update::Updated;
 
@@ -49,16 +51,36 @@ fn ending_second(e: Ending) -> f64
     }
 }
 
-// An update's answer as numbers.
-pub fn told(u: Updated) -> Update
-    ensures { result ≡ told_of u }
-{
-    let e = u.ending;
-    Update {
-        refused: 0,
-        ending: ending_number(e),
-        first: ending_first(e),
-        second: ending_second(e),
-        passes: u.passes,
+impl From<Updated> for Update {
+    ghost from_gives = { λ u r. r ≡ told_of u };
+
+    #[tactic(auto, unfolding(crate::specs::Numbers::told_of))]
+    fn from(u: Updated) -> Update
+        ensures { result ≡ told_of u }
+    {
+        Update {
+            refused: 0,
+            ending: ending_number(u.ending),
+            first: ending_first(u.ending),
+            second: ending_second(u.ending),
+            passes: u.passes,
+        }
+    }
+}
+
+impl From<Refusal> for Update {
+    ghost from_gives = { λ why r. r ≡ refused_with (number_of why) };
+
+    #[tactic(auto, unfolding(crate::specs::Numbers::refused_with))]
+    fn from(why: Refusal) -> Update
+        ensures { result ≡ refused_with (number_of why) }
+    {
+        Update {
+            refused: u32::from(why),
+            ending: 0,
+            first: 0.0,
+            second: 0.0,
+            passes: 0,
+        }
     }
 }

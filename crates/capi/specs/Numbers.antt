@@ -1,9 +1,7 @@
 -- The numbers that stand for the cases of an enum: 01, "For an answer that is an enum, a definition gives this paper's number and values for each case."
 -- Definitions only.
-use Rattle.std.specs.Prelude.{Bool, ℕ, eqb, Float}
+use Rattle.std.specs.Prelude.{Bool, ℕ, Option, Some, None, eqb, Float}
 use Rattle.lists.specs.Lists.{choose}
-use Rattle.oc_seen.specs.declared.Sharpness.{Sharpness}
-use Rattle.oc_seen.specs.declared.Sharpness.TheVariants.{Off, At}
 use Rattle.oc_kept.specs.declared.Rule.{Rule}
 use Rattle.oc_kept.specs.declared.Rule.TheVariants.{Straight, Sharpened}
 use Rattle.update_rates.specs.Rates.{Given, updated}
@@ -11,8 +9,8 @@ use Rattle.update.specs.declared.Updated.{Updated}
 use Rattle.update_rates.specs.Ending.{ending_of}
 
 -- beta counts where the densities are sharpened
-abbrev pub sharpness_of : Bool → Float → Sharpness
-sharpness_of sharpen beta = choose sharpen (At beta) Off
+abbrev pub sharpness_of : Bool → Float → Option Float
+sharpness_of sharpen beta = choose sharpen (Some beta) None
 
 -- 0: the volume goes straight with the design, and value is the volume held solid. Any other number: sharpened, at the steepness value
 abbrev pub rule_of : ℕ → Float → Rule

@@ -15,7 +15,8 @@ ghost use Rattle.lent.specs.Lent.{unless, left_by, WorkedBy};
 ghost use Rattle.capi.specs.Numbers.{sharpness_of, rule_of};
 
 use oc_kept::Rule;
-use oc_seen::Sharpness;
+use oc_project::Projection;
+use filter_table::Table;
 
 #[repr(C)]
 #[derive(Clone, Copy)]
@@ -103,20 +104,22 @@ pub extern "C" fn sokdrib_start(
 pub extern "C" fn sokdrib_project(v: f64, beta: f64) -> Projected
     ensures { (result.density ≡ projected beta v) × (result.slope ≡ projected_slope beta v) }
 {
-    let p = oc_project::project(oc_project::at_steepness(beta), v);
+    let p = Projection::at(beta).project(v);
     Projected {
         density: p.density,
         slope: p.slope,
     }
 }
 
-fn sharpness(sharpen: bool, beta: f64) -> Sharpness
+// The steepness, where the densities are sharpened.
+#[tactic(auto, unfolding(lists::specs::Lists::choose))]
+fn sharpness(sharpen: bool, beta: f64) -> Option<f64>
     ensures { result ≡ sharpness_of sharpen beta }
 {
     if sharpen {
-        Sharpness::At(beta)
+        Some(beta)
     } else {
-        Sharpness::Off
+        None
     }
 }
 
@@ -145,9 +148,7 @@ pub extern "C" fn sokdrib_see(
     }
     let s = sharpness(sharpen, beta);
     oc_seen::see(
-        starts,
-        near,
-        coef,
+        Table { starts, near, coef },
         passive,
         x,
         s,
@@ -184,9 +185,7 @@ pub extern "C" fn sokdrib_work_slope(
         return refused;
     }
     oc_slopes::work_slope(
-        starts,
-        near,
-        coef,
+        Table { starts, near, coef },
         passive,
         density,
         slope,
@@ -222,9 +221,7 @@ pub extern "C" fn sokdrib_volume_slope(
         return refused;
     }
     oc_slopes::volume_slope(
-        starts,
-        near,
-        coef,
+        Table { starts, near, coef },
         slope,
         free,
         &mut by_density[..n],
@@ -274,10 +271,8 @@ pub extern "C" fn sokdrib_kept(
     let volume = oc_kept::kept(
         rule,
         straight,
-        false,
-        starts,
-        near,
-        coef,
+        Table { starts, near, coef },
+        None,
         volumes,
         passive,
         y,

@@ -2,6 +2,8 @@
 ghost use Rattle.c_numbers.specs.Flat.{goal_of, heard_of, OpenedAs, AnsweredAs};
 
 use c_numbers::{RunGoal, RunHeard, RunReturned, RunState, RunStep};
+use filter_table::Table;
+use run_plain::{Elements, Fields, Work};
 
 // Opens a run on a state with none open: the solid part is asked for, or the refusal's number is told. room is how many records the history has room
 // for; the opening writes none. 1 to 12, 20, and 14 before the first row, leave all lists as before; 13 and 14 at a row leave the filter's lists and the
@@ -76,7 +78,26 @@ pub extern "C" fn sokdrib_answer(
         (record { free = free.new; slope = slope.new; spare = spare.new; dc = dc.new; dv = dv.new }) }
 {
     c_calls::answer(
-        room, state, heard, energies, volumes, passive, starts, near, coef, design, density, last,
-        free, slope, spare, dc, dv,
+        room,
+        state,
+        heard,
+        energies,
+        Elements {
+            volumes,
+            passive,
+            table: Table { starts, near, coef },
+        },
+        &mut Fields {
+            design,
+            density,
+            last,
+        },
+        &mut Work {
+            free,
+            slope,
+            spare,
+            dc,
+            dv,
+        },
     )
 }

@@ -8,6 +8,8 @@ ghost use Rattle.c_update.specs.Numbers.{told_of, refused_with};
 ghost use Rattle.capi.specs.Numbers.{rule_of, answer_of};
 
 use c_update::Update;
+use filter_table::Table;
+use update::Task;
 
 // One update of the design x, from the slopes dc of the work and dv of the volume: each value moved by at most m, the rate found at which the
 // volume kept is within tolerance of target. The rule and its value are those of sokdrib_kept, with dv for the slope of the volume. design is
@@ -51,7 +53,7 @@ pub extern "C" fn sokdrib_update(
         };
     }
     let rule = crate::rounds::rule_of(rule, value);
-    let u = update::update(
+    let task = Task {
         x,
         dc,
         dv,
@@ -60,13 +62,13 @@ pub extern "C" fn sokdrib_update(
         target,
         tolerance,
         rule,
-        starts,
-        near,
-        coef,
+        table: Table { starts, near, coef },
         volumes,
+    };
+    Update::from(update::update(
+        task,
         &mut design[..n],
         &mut gain[..n],
         &mut work[..n],
-    );
-    c_update::told(u)
+    ))
 }

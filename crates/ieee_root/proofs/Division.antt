@@ -1,7 +1,6 @@
 -- The arithmetic of `near` and `digits`, on natural numbers: the root of n * 2 ^ 52 from a root of n. Assumes nothing.
-use Rattle.std.proofs.Common.{◌≡◌, ℕ, zero, suc, ◌+◌, ◌-◌, ◌*◌, ◌/◌, ◌%◌, ◌^◌, ◌<◌, ◌≤◌, refl, ap, ◌∙◌, subst, le_trans, add_assoc, mod-lt, mul_assoc, mul_comm, add-mul, add_comm, lt_of_not-le, div-add-mod', mul-add, div-mul-le_self, le_of_mul-le-mul_right, mul_left_comm, two-mul, arith}
+use Rattle.std.proofs.Common.{◌≡◌, ℕ, zero, suc, ◌+◌, ◌-◌, ◌*◌, ◌/◌, ◌%◌, ◌^◌, ◌<◌, ◌≤◌, refl, ap, ◌∙◌, subst, le_trans, add_assoc, mod-lt, mul_assoc, mul_comm, add-mul, add_comm, div-add-mod', mul-add, div-mul-le_self, le_of_mul-le-mul_right, mul_left_comm, two-mul, arith}
 use native.Mathlib.Nat.{add_left_comm}
-use native.Mathlib.Decide.{dec_le}
 use Rattle.ieee_root.proofs.Integer.{sq-le, sq-suc}
 use Rattle.ieee_root.specs.RootSteps.{Near, Rounds}
 
@@ -74,32 +73,3 @@ module _ (s d : ℕ) (near : Near s d) where
     where
       rest_of : (a r t d : ℕ) → a + r ≡ t → r < d → t < a + d
       rest_of a r t d e h = omega arith
-
--- ---- a root of n that is short enough, and the root itself, are near
-
-pub near_of : (n s : ℕ) → 2 ^ 52 ≤ n → s * s ≤ n → n - s * s ≤ 3 * s → s < 2 ^ 27 → Near s (n - s * s)
-near_of n s lo l h k = record { least = go (dec_le (2 ^ 26) (s + 1)); short = k; few = h }
-  where
-    less : (s + 1 < 2 ^ 26) → ⊥
-    less g = omega (arith, sq-le {a = s} {b = 67108862} (omega arith))
-
-    go : Dec (2 ^ 26 ≤ s + 1) → 2 ^ 26 ≤ s + 1
-    go (yes p) = p
-    go (no f) = absurd (less (lt_of_not-le f))
-
-pub root-near : (n r : ℕ) → 2 ^ 52 ≤ n → n < 2 ^ 54 → r * r ≤ n → n < (r + 1) * (r + 1) → Near r (n - r * r)
-root-near n r lo hi l h = near_of n r lo l (omega (arith, sq-suc r, some (dec_le 1 r))) (go (dec_le (2 ^ 27) r))
-  where
-    none : (r < 1) → ⊥
-    none z = omega (arith, sq-suc r, sq-le {a = r} {b = 0} (omega arith))
-
-    some : Dec (1 ≤ r) → 1 ≤ r
-    some (yes p) = p
-    some (no f) = absurd (none (lt_of_not-le f))
-
-    go : Dec (2 ^ 27 ≤ r) → r < 2 ^ 27
-    go (yes p) = absurd (big (sq-le p))
-      where
-        big : (2 ^ 27 * 2 ^ 27 ≤ r * r) → ⊥
-        big p = omega arith
-    go (no f) = lt_of_not-le f

@@ -3,7 +3,7 @@ use Rattle.std.proofs.Common.{◌≡◌, ℕ, zero, suc, ◌+◌, ◌-◌, ◌*�
 use native.Mathlib.Decide.{dec_le}
 use lib.Count.{count_leading_zeros, leading_top}
 use borrow.Author.Tests.{lt-leb}
-use lib.Ieee.{Float, nan, inf, fin, Format, binary64, prec, low, odd, is_nan, div, ones, hid, top, of_fields, of_bits}
+use lib.Ieee.{Float, nan, inf, fin, Format, binary64, prec, low, odd, is_nan, ones, hid, top, of_fields, of_bits}
 use lib.Ieee.Exact.{HasValue, odd_sign}
 use lib.Ieee.Bits.{nan_bits_is, nan_bits_above}
 use Rattle.ieee_root.specs.Sqrt.{sqrt_of, root_of}
@@ -91,9 +91,11 @@ minus-root b lo hi =
 
 -- ---- the values that are their own roots
 
-pub nan-root : (x : Float) → x ≡ nan → x ≡ sqrt_of binary64 x
-unfolding sqrt_of
-nan-root x e = e ∙ sym (ap (sqrt_of binary64) e)
+pub nan-root : (x : Float) → is_nan x ≡ true → x ≡ sqrt_of binary64 x
+unfolding is_nan sqrt_of
+nan-root nan h = refl
+nan-root (inf s) h = absurd (true≢false (sym h))
+nan-root (fin s m e) h = absurd (true≢false (sym h))
 
 pub zero-root : (x : Float) → of_bits binary64 0 ≡ x → x ≡ sqrt_of binary64 x
 unfolding sqrt_of of_bits
@@ -107,8 +109,8 @@ pub inf-root : (x : Float) → of_bits binary64 0x7ff0_0000_0000_0000 ≡ x → 
 unfolding sqrt_of of_bits
 inf-root x e = sym e ∙ ap (sqrt_of binary64) e
 
-pub nan-made : div binary64 (of_bits binary64 0) (of_bits binary64 0) ≡ nan
-unfolding div of_bits
+pub nan-made : of_bits binary64 0x7ff8_0000_0000_0000 ≡ nan
+unfolding of_bits
 nan-made = refl
 
 -- ---- a subnormal number, shifted up

@@ -8,6 +8,5 @@ pub mod Monotone
 pub mod Examples
 mod Division
 mod Input
-mod Newton
 mod Patterns
 mod Rounded

@@ -1,13 +1,24 @@
 // IEEE 754's square root: the exact root, rounded once to the nearest f64.
 // A guess in floats gives the 27 leading binary digits of the root, which comparisons of integers accept; one integer division then
-// gives the other 26. No proof speaks of the guess's error: where it is refused, Newton's iteration on integers takes its place.
-// The numbers 134217728, 67108864 and 4503599627370496 are 2^27, 2^26 and 2^52.
+// gives the other 26. No proof speaks of the guess's error: where it is refused, the root of the whole number takes its place.
 #![tactic(auto)]
 
 ghost use Rattle.std.specs.Prelude.{◌≡◌, ◌+◌, ◌*◌, ◌^◌, ◌<◌, ◌≤◌};
 ghost use Rattle.std.specs.Float.{binary64};
 ghost use Rattle.ieee_root.specs.Sqrt.{sqrt_of};
 ghost use Rattle.ieee_root.specs.RootSteps.{Near, Rounds, Input, Output};
+
+const TWO_23: u64 = 1 << 23;
+
+const TWO_26: u64 = 1 << 26;
+
+const TWO_27: u64 = 1 << 27;
+
+const TWO_52: u64 = 1 << 52;
+// The patterns of the infinity above and of -0.
+const INFINITY: u64 = 0x7ff0_0000_0000_0000;
+
+const MINUS_ZERO: u64 = 0x8000_0000_0000_0000;
 
 // Near the root of x, whose pattern is b: half of the pattern, taken from a constant, is near 1 / sqrt(x), and two steps better it.
 // Any answer will do, so no contract bounds it.
@@ -21,61 +32,60 @@ fn guess(x: f64, b: u64) -> f64
     s + s * h * (0.5 + 0.375 * h)
 }
 
-// The largest r with r * r <= n, by Newton's iteration from above.
-fn isqrt(n: u64) -> u64
-    requires { n < 2 ^ 54 }
-    ensures { (result * result ≤ n) × (n < (result + 1) * (result + 1)) }
-{
-    let mut r = 134217728u64;
-    while n < r * r {
-        r = (r + n / r) / 2;
-    }
-    r
-}
-
-// The root of (s * s + d) * 2^52, to the nearest whole number: q = s * 2^26 + u, with u from a division of what is left, or one more or less.
-fn digits(s: u64, d: u64) -> u64
-    requires { Near s d }
-    ensures { Rounds ((s * s + d) * 2 ^ 52) result }
-{
-    let t = d * 67108864;
-    let c = 2 * s;
-    let u = t / c;
-    let v = (t - u * c) * 67108864;
-    let q = s * 67108864 + u;
-    let a = u * u;
-    if v > q + a {
-        return q + 1;
-    }
-    if v + q <= a {
-        return q - 1;
-    }
-    q
-}
-
-// A root s from below, and what is left of the number.
+// A root s of s * s + d from below, near enough for `digits`.
 #[derive(Clone, Copy)]
 struct Part {
     s: u64,
     d: u64,
+    ghost near: { Near s d },
 }
 
-// A root of n from below: s or, where s will not do, the largest.
-fn near(n: u64, s: u64) -> Part
-    requires { (2 ^ 52 ≤ n) × (n < 2 ^ 54) }
-    ensures { Near result.s result.d × (result.s * result.s + result.d ≡ n) }
-{
-    if s < 134217728 {
-        let a = s * s;
-        if a <= n {
-            let d = n - a;
-            if d <= 3 * s {
-                return Part { s, d };
+impl Part {
+    // The largest root of n from below.
+    fn largest(n: u64) -> Part
+        requires { (2 ^ 52 ≤ n) × (n < 2 ^ 54) }
+        ensures { result.s * result.s + result.d ≡ n }
+    {
+        let s = n.isqrt();
+        let d = n - s * s;
+        Part { s, d }
+    }
+
+    // A root of n from below: s or, where s will not do, the largest.
+    fn of(n: u64, s: u64) -> Part
+        requires { (2 ^ 52 ≤ n) × (n < 2 ^ 54) }
+        ensures { result.s * result.s + result.d ≡ n }
+    {
+        if s < TWO_27 {
+            let a = s * s;
+            if a <= n {
+                let d = n - a;
+                if d <= 3 * s {
+                    return Part { s, d };
+                }
             }
         }
+        Part::largest(n)
     }
-    let r = isqrt(n);
-    Part { s: r, d: n - r * r }
+
+    // The root of (s * s + d) * 2^52, to the nearest whole number: q = s * 2^26 + u, with u from a division of what is left, or one more or less.
+    fn digits(self) -> u64
+        ensures { Rounds ((self.s * self.s + self.d) * 2 ^ 52) result }
+    {
+        let t = self.d * TWO_26;
+        let c = 2 * self.s;
+        let u = t / c;
+        let v = (t - u * c) * TWO_26;
+        let q = self.s * TWO_26 + u;
+        let a = u * u;
+        if v > q + a {
+            return q + 1;
+        }
+        if v + q <= a {
+            return q - 1;
+        }
+        q
+    }
 }
 
 // The pattern of the root of m * 2^e smallest values squared, by a guess whose pattern is g. With its exponent k taken off, and 2^23, so
@@ -84,10 +94,10 @@ fn pattern(m: u64, e: u64, g: u64) -> u64
     requires { Input m e }
     ensures { Output m e result }
 {
-    let k = (e / 2 - 26) * 4503599627370496;
+    let k = (e / 2 - 26) * TWO_52;
     let n = m << (e % 2);
-    let p = near(n, std::num::wrapping_sub_u64(g, k + 8388608) / 67108864);
-    k + digits(p.s, p.d)
+    let p = Part::of(n, g.wrapping_sub(k + TWO_23) / TWO_26);
+    k + p.digits()
 }
 
 // The same with no guess.
@@ -96,39 +106,39 @@ fn exactly(m: u64, e: u64) -> u64
     ensures { Output m e result }
 {
     let n = m << (e % 2);
-    let s = isqrt(n);
-    (e / 2 - 26) * 4503599627370496 + digits(s, n - s * s)
+    let p = Part::largest(n);
+    (e / 2 - 26) * TWO_52 + p.digits()
 }
 
 // The root of x: nan for a nan and for a number below zero; a zero, and the infinity above, are their own roots.
 pub fn sqrt(x: f64) -> f64
     ensures { result ≡ sqrt_of binary64 x }
 {
-    if x != x {
+    if x.is_nan() {
         return x;
     }
     let b = f64::to_bits(x);
-    if b < 0x7ff0_0000_0000_0000 {
-        if b < 4503599627370496 {
+    if b < INFINITY {
+        if b < TWO_52 {
             if b == 0 {
                 return x;
             }
-            let s = u64::leading_zeros(b) as u64 - 11;
+            let s = b.leading_zeros() as u64 - 11;
             return f64::from_bits(exactly(b << s, 1074 - s));
         }
-        let m = b % 4503599627370496 + 4503599627370496;
-        let e = b / 4503599627370496 + 1073;
+        let m = b % TWO_52 + TWO_52;
+        let e = b / TWO_52 + 1073;
         let g = guess(x, b);
-        if g == g {
+        if !g.is_nan() {
             return f64::from_bits(pattern(m, e, f64::to_bits(g)));
         }
         return f64::from_bits(exactly(m, e));
     }
-    if b == 0x7ff0_0000_0000_0000 {
+    if b == INFINITY {
         return x;
     }
-    if b == 0x8000_0000_0000_0000 {
+    if b == MINUS_ZERO {
         return x;
     }
-    0.0 / 0.0
+    f64::NAN
 }

@@ -49,6 +49,8 @@ pub enum Refusal {
 }
 
 impl From<Refusal> for u32 {
+    ghost from_gives = { λ r n. n ≡ number_of r };
+
     fn from(r: Refusal) -> u32
         ensures { result ≡ number_of r }
     {

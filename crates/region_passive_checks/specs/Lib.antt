@@ -1,2 +1,2 @@
 -- `Checks` has what `passive` is refused for.
-pub mod Checks
+pub mod Passes

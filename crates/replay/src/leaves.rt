@@ -1,5 +1,6 @@
 // One case of each leaf: its arguments are read, then what the Rust gave.
 use geom::{Mirror, Vec3};
+use oc_project::Projection;
 use replay_sample::read::point;
 use replay_sample::words::{number, same, word};
 use std::io::Read;
@@ -72,7 +73,7 @@ pub fn dist2_to_triangle(sample: &mut impl Read) -> bool {
 pub fn project(sample: &mut impl Read) -> bool {
     let v = number(sample);
     let beta = number(sample);
-    let r = oc_project::project(oc_project::at_steepness(beta), v);
+    let r = Projection::at(beta).project(v);
     let density = number(sample);
     let slope = number(sample);
     same(r.density, density) & same(r.slope, slope)

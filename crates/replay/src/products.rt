@@ -1,4 +1,5 @@
 // One case of each product with the filter's table, of 12 rows and 48 entries: the table's three lists, the list, then what the Rust gave.
+use filter_table::Table;
 use replay_sample::read::{are, fill};
 use std::io::Read;
 
@@ -12,7 +13,12 @@ pub fn apply(sample: &mut impl Read) -> bool {
     fill(sample, &mut near);
     fill(sample, &mut coef);
     fill(sample, &mut x);
-    filter_apply::apply(&starts, &near, &coef, &x, &mut out);
+    let table = Table {
+        starts: &starts,
+        near: &near,
+        coef: &coef,
+    };
+    filter_apply::apply(table, &x, &mut out);
     are(sample, &out)
 }
 
@@ -26,6 +32,11 @@ pub fn back(sample: &mut impl Read) -> bool {
     fill(sample, &mut near);
     fill(sample, &mut coef);
     fill(sample, &mut g);
-    filter_back::back(&starts, &near, &coef, &g, &mut out);
+    let table = Table {
+        starts: &starts,
+        near: &near,
+        coef: &coef,
+    };
+    filter_back::back(table, &g, &mut out);
     are(sample, &out)
 }

@@ -1,5 +1,6 @@
 // One case of a filter's table, of 8 elements: middles, volumes, radius, the planes; then starts, neighbours and coefficients, 64 places each of the
 // last two, zero behind the last row.
+use filter::work::{Input, TableMut, Work};
 use replay_sample::read::{are, fill};
 use replay_sample::words::number;
 use std::io::Read;
@@ -23,27 +24,33 @@ fn built(
     let mut weight = [0.0; 8];
     let mut found = [0u32; 8];
     let mut bits = [0u64; 1040];
-    let refused = filter_build::build(
-        centroids,
-        volumes,
-        radius,
-        planes,
-        &mut starts,
-        &mut near,
-        &mut coef,
-        &mut cell,
-        &mut order,
-        &mut first,
-        &mut sorted,
-        &mut stamp,
-        &mut weight,
-        &mut found,
-        &mut bits,
+    let outcome = filter_build::build(
+        Input {
+            centroids,
+            volumes,
+            radius,
+            planes,
+        },
+        &mut TableMut {
+            starts: &mut starts,
+            near: &mut near,
+            coef: &mut coef,
+        },
+        &mut Work {
+            cell: &mut cell,
+            order: &mut order,
+            first: &mut first,
+            sorted: &mut sorted,
+            stamp: &mut stamp,
+            weight: &mut weight,
+            found: &mut found,
+            bits: &mut bits,
+        },
     );
     let all_starts = are(sample, &starts);
     let all_near = are(sample, &near);
     let all_coef = are(sample, &coef);
-    (refused == 0) & all_starts & all_near & all_coef
+    outcome.is_ok() & all_starts & all_near & all_coef
 }
 
 pub fn unmirrored(sample: &mut impl Read) -> bool {

@@ -208,6 +208,7 @@ pub fn modulus(level: u16, e0: f64) -> f64
 }
 
 // The level that a density is solved at: the nearest thousandth.
+#[tactic(auto, using(crate::proofs::Levels::level_most), unfolding(crate::specs::Levels::level_of))]
 pub fn level_of(x: f64) -> u16
     ensures { result ≡ level_of x }
 {
