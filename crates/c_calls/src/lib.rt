@@ -1,121 +1,85 @@
 // The calls of a run over the structs of numbers of `c_numbers`, for `capi`.
 #![tactic(auto)]
 
-ghost use Rattle.c_numbers.specs.Flat.{goal_of, heard_of, OpenedAs, AnsweredAs};
+ghost use Rattle.filter.specs.Held.{working as open_working, SameTable, SameWork as SameOpenWork};
+ghost use Rattle.run_plain.specs.Held.{core, working, SameFields, SameWork, SameOpenFields};
+ghost use Rattle.c_numbers.specs.Flat.{heard_of, OpenedAs, AnsweredAs};
+ghost use Rattle.c_calls.specs.Held.{asked, opened};
 
 use c_numbers::{RunGoal, RunHeard, RunReturned, RunState, RunStep};
+use filter::work::TableMut;
+use run_plain::{Elements, Fields, Heard, OpenFields, State, Work};
+use topo::Goal;
+
+// What a run is opened on, as `run_plain::Job`, with the goal's numbers.
+#[derive(Clone, Copy)]
+pub struct Job<'a> {
+    pub volumes: &'a [f64],
+    pub centroids: &'a [[f64; 3]],
+    pub passive: &'a [bool],
+    pub mirrors: &'a [[f64; 6]],
+    pub goal: RunGoal,
+    pub flag: bool,
+}
 
 // `run_open::open_core`: an opening, the history having room for so many records.
+#[tactic(auto, using(c_numbers::proofs::Laws::opened_as, c_numbers::proofs::Laws::not_opened))]
 pub fn open(
     room: usize,
     state: RunState,
-    goal: RunGoal,
-    flag: bool,
-    volumes: &[f64],
-    centroids: &[[f64; 3]],
-    passive: &[bool],
-    mirrors: &[[f64; 6]],
-    starts: &mut [u32],
-    near: &mut [u32],
-    coef: &mut [f64],
-    design: &mut [f64],
-    density: &mut [f64],
-    last: &[f64],
-    cell: &mut [[u64; 3]],
-    order: &mut [u32],
-    first: &mut [u32],
-    sorted: &mut [[f64; 3]],
-    stamp: &mut [u32],
-    weight: &mut [f64],
-    found: &mut [u32],
-    bits: &mut [u64],
+    job: Job,
+    table: &mut TableMut,
+    fields: &mut OpenFields,
+    work: &mut filter::work::Work,
 ) -> RunReturned
-    ensures { OpenedAs state goal (record { centroids = centroids.now; mirrors = mirrors.now; goal = goal_of goal; flag = flag }) room
-        (record { volumes = volumes.now; passive = passive.now; starts = starts.old; near = near.old; coef = coef.old; design = design.old; density = density.old; last = last.now })
-        (record { cell = cell.old; order = order.old; first = first.old; sorted = sorted.old; stamp = stamp.old; weight = weight.old; found = found.old; bits = bits.old })
-        result
-        (record { volumes = volumes.now; passive = passive.now; starts = starts.new; near = near.new; coef = coef.new; design = design.new; density = density.new; last = last.now })
-        (record { cell = cell.new; order = order.new; first = first.new; sorted = sorted.new; stamp = stamp.new; weight = weight.new; found = found.new; bits = bits.new }) }
+    ensures opened { OpenedAs state job.entry.goal (asked job.entry) room (opened job.entry table.old fields.old) (open_working work.old)
+        result (opened job.entry table.new fields.new) (open_working work.new) }
+    ensures same_table { SameTable table.old table.new }
+    ensures same_fields { SameOpenFields fields.old fields.new }
+    ensures same_work { SameOpenWork work.old work.new }
 {
-    let t = c_numbers::unknown(state) | c_numbers::no_goal(goal);
-    if t {
-        return c_numbers::refused(state);
+    if state.is_unknown() | job.goal.is_unknown() {
+        return state.refused();
     }
-    let r = run_open::open_core(
-        room,
-        c_numbers::state_of(state),
-        c_numbers::goal_of(goal),
-        flag,
-        volumes,
-        centroids,
-        passive,
-        mirrors,
-        starts,
-        near,
-        coef,
-        design,
-        density,
-        last,
-        cell,
-        order,
-        first,
-        sorted,
-        stamp,
-        weight,
-        found,
-        bits,
-    );
-    c_numbers::returned_numbers(r)
+    let read = run_plain::Job {
+        volumes: job.volumes,
+        centroids: job.centroids,
+        passive: job.passive,
+        mirrors: job.mirrors,
+        goal: Goal::from(job.goal),
+        flag: job.flag,
+    };
+    let returned = run_open::open_core(room, State::from(state), read, table, fields, work);
+    RunReturned::from(returned)
 }
 
 // `run_answer::answer_core`: an answer, the history having room for so many records.
+#[tactic(auto, using(c_numbers::proofs::Laws::answered_as, c_numbers::proofs::Laws::not_answered))]
 pub fn answer(
     room: usize,
     state: RunState,
     heard: RunHeard,
     energies: &[f64],
-    volumes: &[f64],
-    passive: &[bool],
-    starts: &[u32],
-    near: &[u32],
-    coef: &[f64],
-    design: &mut [f64],
-    density: &mut [f64],
-    last: &mut [f64],
-    free: &mut [f64],
-    slope: &mut [f64],
-    spare: &mut [f64],
-    dc: &mut [f64],
-    dv: &mut [f64],
+    elements: Elements,
+    fields: &mut Fields,
+    work: &mut Work,
 ) -> RunStep
-    ensures { AnsweredAs state (record { heard = heard_of heard; energies = energies.now }) room
-        (record { volumes = volumes.now; passive = passive.now; starts = starts.now; near = near.now; coef = coef.now; design = design.old; density = density.old; last = last.old })
-        (record { free = free.old; slope = slope.old; spare = spare.old; dc = dc.old; dv = dv.old })
-        result
-        (record { volumes = volumes.now; passive = passive.now; starts = starts.now; near = near.now; coef = coef.now; design = design.new; density = density.new; last = last.new })
-        (record { free = free.new; slope = slope.new; spare = spare.new; dc = dc.new; dv = dv.new }) }
+    ensures answered { AnsweredAs state (record { heard = heard_of heard; energies = energies.now }) room (core elements.entry fields.old) (working work.old)
+        result (core elements.entry fields.new) (working work.new) }
+    ensures same_fields { SameFields fields.old fields.new }
+    ensures same_work { SameWork work.old work.new }
 {
-    if c_numbers::unknown(state) {
-        return c_numbers::unrecorded(room, state);
+    if state.is_unknown() {
+        return state.unrecorded(room);
     }
-    let s = run_answer::answer_core(
+    let step = run_answer::answer_core(
         room,
-        c_numbers::state_of(state),
-        c_numbers::heard_of(heard),
+        State::from(state),
+        Heard::from(heard),
         energies,
-        volumes,
-        passive,
-        starts,
-        near,
-        coef,
-        design,
-        density,
-        last,
-        free,
-        slope,
-        spare,
-        dc,
-        dv,
+        elements,
+        fields,
+        work,
     );
-    c_numbers::step_numbers(s)
+    RunStep::new(step, room, state.rounds)
 }

@@ -1,11 +1,11 @@
 -- What the numbers stand for. 01: "For an answer that is an enum, a definition gives this paper's number and values for each case." Definitions only.
-use Rattle.std.specs.Prelude.{ℕ, ◌≡◌, Bool, true, false, ◌||◌, eqb, ltb}
-use Rattle.lists.specs.Lists.{choose}
+use Rattle.std.specs.Prelude.{ℕ, ◌≡◌, Bool, true, false, ◌||◌, eqb, ltb, Option, Some, None}
+use Rattle.lists.specs.Lists.{choose, zero64}
 use Rattle.topo.specs.declared.Goal.{Goal}
 use Rattle.topo.specs.declared.Iteration.{Iteration}
-use Rattle.topo.specs.declared.Stop.{Stop as Reason}
 use Rattle.topo.specs.Stages.{sharpening_of, sharpening_number}
-use Rattle.topo.specs.declared.Stop.TheVariants.{Settled, LevelledOff, Limit, Budget, Stopped}
+use Rattle.topo.specs.Stops.{stop_number}
+use Rattle.refusal.specs.Refusals.{number_of}
 use Rattle.run_plain.specs.declared.Phase.{Phase}
 use Rattle.run_plain.specs.declared.Phase.TheVariants.{Idle, Solid, Round}
 use Rattle.run_plain.specs.declared.Said.{Said}
@@ -17,8 +17,10 @@ use Rattle.run_plain.specs.declared.Heard.{Heard}
 use Rattle.run_plain.specs.declared.Returned.{Returned}
 use Rattle.run_plain.specs.Calls.{Core, Asked, Arguments}
 use Rattle.run_answer.specs.declared.Step.{Step}
-use Rattle.run_answer.specs.Answers.{Work, CoreAnswered}
-use Rattle.run_open_checks.specs.Opens.{Work as OpenWork, CoreOpened}
+use Rattle.run_plain.specs.Held.{Working}
+use Rattle.run_answer.specs.Answers.{CoreAnswered}
+use Rattle.filter.specs.Build.{Working as OpenWork}
+use Rattle.run_open_checks.specs.Opens.{CoreOpened}
 use Rattle.c_numbers.specs.declared.RunState.{RunState}
 use Rattle.c_numbers.specs.declared.RunGoal.{RunGoal}
 use Rattle.c_numbers.specs.declared.RunHeard.{RunHeard}
@@ -71,22 +73,15 @@ state_numbers s =
       compliance = s.compliances.last;
     }
 
-abbrev pub stop_number : Reason → ℕ
-stop_number Settled = 0
-stop_number LevelledOff = 1
-stop_number Limit = 2
-stop_number Budget = 3
-stop_number Stopped = 4
-
 abbrev pub reply_kind : Reply → ℕ
-reply_kind (Refused n) = 0
+reply_kind (Refused why) = 0
 reply_kind SolidPart = 1
 reply_kind (RoundPart n) = 2
 reply_kind (Stop why) = 3
 
 -- a refusal's number, a round's, or a stop's
 abbrev pub reply_number : Reply → ℕ
-reply_number (Refused n) = n
+reply_number (Refused why) = number_of why
 reply_number SolidPart = 0
 reply_number (RoundPart n) = n
 reply_number (Stop why) = stop_number why
@@ -97,8 +92,21 @@ returned_numbers t = record { state = state_numbers t.state; reply = reply_kind 
 unfoldable pub record_numbers : Iteration → RunRecord
 record_numbers i = record { number = i.number; compliance = i.compliance; fraction = i.fraction; change = i.change; sharpness = i.sharpness; grey = i.grey; passes = i.passes }
 
-unfoldable pub step_numbers : Step → RunStep
-step_numbers s = record { returned = returned_numbers s.returned; at = s.at; entry = record_numbers s.entry }
+-- where no record is made
+abbrev pub no_record : RunRecord
+no_record = record { number = 0; compliance = zero64; fraction = zero64; change = zero64; sharpness = zero64; grey = zero64; passes = 0 }
+
+-- a record's place in the history, after so many; past the end of a history with so much room where there is none
+abbrev pub step_at : ℕ → ℕ → Option Iteration → ℕ
+step_at room rounds (Some i) = rounds
+step_at room rounds None = room
+
+abbrev pub entry_numbers : Option Iteration → RunRecord
+entry_numbers (Some i) = record_numbers i
+entry_numbers None = no_record
+
+unfoldable pub step_numbers : ℕ → ℕ → Step → RunStep
+step_numbers room rounds s = record { returned = returned_numbers s.returned; at = step_at room rounds s.entry; entry = entry_numbers s.entry }
 
 -- 20 with the state as it came
 abbrev pub refused20 : RunState → RunReturned
@@ -110,9 +118,9 @@ pub record OpenedIn (s : RunState) (g : Asked) (room : ℕ) (l : Core) (w : Open
   pub numbers : r ≡ returned_numbers returned
   pub opens : CoreOpened (state_of s) g room l w returned o w'
 
-pub record AnsweredIn (s : RunState) (a : Arguments) (room : ℕ) (l : Core) (w : Work) (r : RunStep) (o : Core) (w' : Work) : Type 0 where
+pub record AnsweredIn (s : RunState) (a : Arguments) (room : ℕ) (l : Core) (w : Working) (r : RunStep) (o : Core) (w' : Working) : Type 0 where
   pub step : Step
-  pub numbers : r ≡ step_numbers step
+  pub numbers : r ≡ step_numbers room (state_of s).progress.rounds step
   pub answers : CoreAnswered (state_of s) a room l w step o w'
 
 -- numbers that no run has, and a number that no goal has: 0 to 2 are the phases, and the choices of sharpening
@@ -127,6 +135,6 @@ pub record OpenedAs (s : RunState) (n : RunGoal) (g : Asked) (room : ℕ) (l : C
   pub known : (no_runs s || no_goals n) ≡ false → OpenedIn s g room l w r o w'
   pub unknown : (no_runs s || no_goals n) ≡ true → (r ≡ refused20 s) × (o ≡ l) × (w' ≡ w)
 
-pub record AnsweredAs (s : RunState) (a : Arguments) (room : ℕ) (l : Core) (w : Work) (r : RunStep) (o : Core) (w' : Work) : Type 0 where
+pub record AnsweredAs (s : RunState) (a : Arguments) (room : ℕ) (l : Core) (w : Working) (r : RunStep) (o : Core) (w' : Working) : Type 0 where
   pub known : no_runs s ≡ false → AnsweredIn s a room l w r o w'
   pub unknown : no_runs s ≡ true → (r.returned ≡ refused20 s) × (r.at ≡ room) × (o ≡ l) × (w' ≡ w)

@@ -2,13 +2,16 @@
 #![tactic(auto)]
 
 ghost use Rattle.std.specs.Prelude.{◌≡◌};
-ghost use Rattle.c_update.specs.Numbers.{ending_number, ending_first, ending_second, told_of};
+ghost use Rattle.refusal.specs.Refusals.{number_of};
+ghost use Rattle.c_update.specs.Numbers.{told_of, refused_with};
 
+use refusal::Refusal;
 use topo::Ending;
 use update::Updated;
 
 // How an update ended, or the number of a refusal and zeros. Ending 0: met, with the kept volume first. 1: cramped, with the lower and the
 // upper rate of its bracket. 2: spent, with the kept volume first.
+// Stays numbers for a refusal and for an ending, since the C interface lays it out so.
 #[repr(C)]
 #[derive(Clone, Copy)]
 pub struct Update {
@@ -19,46 +22,41 @@ pub struct Update {
     pub passes: usize,
 }
 
-fn ending_number(e: Ending) -> u32
-    ensures { result ≡ ending_number e }
-{
-    match e {
-        Ending::Met(_) => 0,
-        Ending::Cramped(_, _) => 1,
-        Ending::Spent(_) => 2,
+impl From<Updated> for Update {
+    ghost from_gives = { λ u r. r ≡ told_of u };
+
+    #[tactic(auto, unfolding(crate::specs::Numbers::told_of))]
+    fn from(u: Updated) -> Update
+        ensures { result ≡ told_of u }
+    {
+        let (ending, first, second) = match u.ending {
+            Ending::Met(kept) => (0, kept, 0.0),
+            Ending::Cramped(low, high) => (1, low, high),
+            Ending::Spent(kept) => (2, kept, 0.0),
+        };
+        Update {
+            refused: 0,
+            ending,
+            first,
+            second,
+            passes: u.passes,
+        }
     }
 }
 
-fn ending_first(e: Ending) -> f64
-    ensures { result ≡ ending_first e }
-{
-    match e {
-        Ending::Met(kept) => kept,
-        Ending::Cramped(low, _) => low,
-        Ending::Spent(kept) => kept,
-    }
-}
+impl From<Refusal> for Update {
+    ghost from_gives = { λ why r. r ≡ refused_with (number_of why) };
 
-fn ending_second(e: Ending) -> f64
-    ensures { result ≡ ending_second e }
-{
-    match e {
-        Ending::Met(_) => 0.0,
-        Ending::Cramped(_, high) => high,
-        Ending::Spent(_) => 0.0,
-    }
-}
-
-// An update's answer as numbers.
-pub fn told(u: Updated) -> Update
-    ensures { result ≡ told_of u }
-{
-    let e = u.ending;
-    Update {
-        refused: 0,
-        ending: ending_number(e),
-        first: ending_first(e),
-        second: ending_second(e),
-        passes: u.passes,
+    #[tactic(auto, unfolding(crate::specs::Numbers::refused_with))]
+    fn from(why: Refusal) -> Update
+        ensures { result ≡ refused_with (number_of why) }
+    {
+        Update {
+            refused: u32::from(why),
+            ending: 0,
+            first: 0.0,
+            second: 0.0,
+            passes: 0,
+        }
     }
 }

@@ -1,3 +1,2 @@
--- `Fronts` has what the tests of lent lists tell and what is left in the lists, and `Told` that an update's answer as numbers is that of the definition.
+-- `Fronts` has what is left in lent lists.
 pub mod Fronts
-pub mod Told

@@ -3,6 +3,9 @@ ghost use Rattle.std.specs.Prelude.{◌≡◌, length};
 ghost use Rattle.filter.specs.Build.{Built};
 ghost use Rattle.filter_table.specs.Table.{applied, backed};
 
+use filter::work::{Input, TableMut, Work};
+use filter_table::Table;
+
 // The filter's table, over the radius and the same on both sides of each plane (its point, then its normal), and 0 or the refusal. 1 to 4 and 8 to 12
 // in order, and 14 before the first row, leave all lists as before; 13 and 14 at a row leave the table's lists and the working lists zero throughout. A
 // table has its rows' starts, one more than there are elements, and each row's neighbours and weights up to its end. The working lists are for the
@@ -27,10 +30,24 @@ pub extern "C" fn sokdrib_filter_build(
 ) -> u32
     ensures { Built centroids.now volumes.now radius planes.now (record { starts = starts.old; near = near.old; coef = coef.old; cell = cell.old; order = order.old; first = first.old; sorted = sorted.old; stamp = stamp.old; weight = weight.old; found = found.old; bits = bits.old }) result (record { starts = starts.new; near = near.new; coef = coef.new; cell = cell.new; order = order.new; first = first.new; sorted = sorted.new; stamp = stamp.new; weight = weight.new; found = found.new; bits = bits.new }) }
 {
-    filter_build::build(
-        centroids, volumes, radius, planes, starts, near, coef, cell, order, first, sorted, stamp,
-        weight, found, bits,
-    )
+    let input = Input {
+        centroids,
+        volumes,
+        radius,
+        planes,
+    };
+    let mut table = TableMut { starts, near, coef };
+    let mut work = Work {
+        cell,
+        order,
+        first,
+        sorted,
+        stamp,
+        weight,
+        found,
+        bits,
+    };
+    refusal::refused(filter_build::build(input, &mut table, &mut work))
 }
 
 // Element densities seen through the filter: the sum of each row, one row for each place of out. A row whose places are not in the
@@ -45,7 +62,7 @@ pub extern "C" fn sokdrib_apply(
 )
     ensures { out.new ≡ applied starts.now near.now coef.now x.now (length out.old) }
 {
-    filter_apply::apply(starts, near, coef, x, out);
+    filter_apply::apply(Table { starts, near, coef }, x, out);
 }
 
 // Slopes against filtered densities carried back to the densities: the transposed product, one row for each place of g.
@@ -59,5 +76,5 @@ pub extern "C" fn sokdrib_back(
 )
     ensures { out.new ≡ backed starts.now near.now coef.now g.now (length g.now) (length out.old) }
 {
-    filter_back::back(starts, near, coef, g, out);
+    filter_back::back(Table { starts, near, coef }, g, out);
 }

@@ -1,14 +1,16 @@
 // What lists are refused for.
-ghost use Rattle.std.specs.Prelude.{◌≡◌};
-ghost use Rattle.refusal.specs.Refusals.{refused};
+ghost use Rattle.std.specs.Prelude.{◌≡◌, ◌<◌, false, IfOk, IfErr};
+ghost use Rattle.refusal.specs.Refusals.{number_of, refused};
 ghost use Rattle.capi.specs.Lent.{refusal_of};
 
 use refusal::Refusal;
 
 // Whether lists differ in count, and then whether one is shorter than needed.
-#[tactic(auto, unfolding(lists::specs::Lists::choose))]
-fn check(differ: bool, short: bool) -> Result<(), Refusal>
-    ensures { refused result ≡ refusal_of differ short }
+#[tactic(auto, using(refusal::proofs::Numbers::some_number), unfolding(lists::specs::Lists::choose))]
+pub fn check(differ: bool, short: bool) -> Result<(), Refusal>
+    ensures refusal { refused result ≡ refusal_of differ short }
+    ensures some { IfErr result (λ why. 0 < number_of why) }
+    ensures accepted { IfOk result (λ _. (differ ≡ false) × (short ≡ false)) }
 {
     if differ {
         return Err(Refusal::CountsDiffer);
@@ -17,11 +19,4 @@ fn check(differ: bool, short: bool) -> Result<(), Refusal>
         return Err(Refusal::ListTooShort);
     }
     Ok(())
-}
-
-// The number that crosses to C: 1 where lists differ in count, else 14 where one is shorter than needed, else 0.
-pub fn refusal(differ: bool, short: bool) -> u32
-    ensures { result ≡ refusal_of differ short }
-{
-    refusal::refused(check(differ, short))
 }

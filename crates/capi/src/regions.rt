@@ -62,6 +62,7 @@ pub extern "C" fn sokdrib_passive(
 }
 
 // How far a boundary is from its image, or the number of a refusal and 0.
+// Stays a number beside the distance, since the C interface lays it out so.
 #[repr(C)]
 #[derive(Clone, Copy)]
 pub struct Asymmetry {
@@ -121,6 +122,7 @@ pub extern "C" fn sokdrib_asymmetry(
 
 // How far points reach to each side of a plane, where they are off its middle. Where they are about even, where there are none, and at a refusal, off is
 // false and the reaches are 0.
+// Stays a number and a flag beside the reaches, since the C interface lays it out so.
 #[repr(C)]
 #[derive(Clone, Copy)]
 pub struct OffCentre {

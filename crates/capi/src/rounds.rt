@@ -12,10 +12,13 @@ ghost use Rattle.oc_kept.specs.Kept.{kept_of};
 ghost use Rattle.oc_record.specs.Record.{compliance_of, fraction_of, change_of, grey_of};
 ghost use Rattle.capi.specs.Lent.{refusal_of};
 ghost use Rattle.lent.specs.Lent.{unless, left_by, WorkedBy};
-ghost use Rattle.capi.specs.Numbers.{sharpness_of, rule_of};
+ghost use Rattle.refusal.specs.Refusals.{number_of};
+ghost use Rattle.capi.specs.Numbers.{sharpness_of, rule_of, start_refused, kept_refused};
 
+use filter_table::Table;
 use oc_kept::Rule;
-use oc_seen::Sharpness;
+use oc_project::Projection;
+use refusal::Refusal;
 
 #[repr(C)]
 #[derive(Clone, Copy)]
@@ -25,6 +28,7 @@ pub struct Projected {
 }
 
 // What a run starts with, or the number of a refusal and zeros.
+// Stays a number beside values, since the C interface lays it out so.
 #[repr(C)]
 #[derive(Clone, Copy)]
 pub struct Start {
@@ -36,12 +40,39 @@ pub struct Start {
     pub density: f64,
 }
 
+impl From<Refusal> for Start {
+    fn from(why: Refusal) -> Start
+        ensures { result ≡ start_refused (number_of why) }
+    {
+        Start {
+            refused: u32::from(why),
+            total: 0.0,
+            solid: 0.0,
+            target: 0.0,
+            tolerance: 0.0,
+            density: 0.0,
+        }
+    }
+}
+
 // The volume that a design keeps, or the number of a refusal and 0.
+// Stays a number beside the volume, since the C interface lays it out so.
 #[repr(C)]
 #[derive(Clone, Copy)]
 pub struct Kept {
     pub refused: u32,
     pub volume: f64,
+}
+
+impl From<Refusal> for Kept {
+    fn from(why: Refusal) -> Kept
+        ensures { result ≡ kept_refused (number_of why) }
+    {
+        Kept {
+            refused: u32::from(why),
+            volume: 0.0,
+        }
+    }
 }
 
 // Whether solid of a part's total volume, held solid, leaves no room to come down to target.
@@ -53,6 +84,7 @@ pub extern "C" fn sokdrib_no_room(solid: f64, total: f64, target: f64) -> bool
 }
 
 // Where a run starts: the first design, each element's volume where it is not held solid, and the numbers of the whole run.
+#[tactic(auto, using(crate::proofs::Fronts::refused_by, crate::proofs::Fronts::unless_taken, crate::proofs::Fronts::written))]
 #[unsafe(no_mangle)]
 pub extern "C" fn sokdrib_start(
     volumes: &[f64],
@@ -67,19 +99,9 @@ pub extern "C" fn sokdrib_start(
     ensures design_after { (design.new ≡ left_by result.refused (start_design passive.now result.density) design.old) × (free.new ≡ left_by result.refused (free_volumes volumes.now passive.now) free.old) }
 {
     let n = volumes.len();
-    let refused = crate::lengths::refusal(
-        passive.len() != n,
-        (design.len() < n) | (free.len() < n),
-    );
-    if refused != 0 {
-        return Start {
-            refused,
-            total: 0.0,
-            solid: 0.0,
-            target: 0.0,
-            tolerance: 0.0,
-            density: 0.0,
-        };
+    let short = (design.len() < n) | (free.len() < n);
+    if let Err(why) = crate::lengths::check(passive.len() != n, short) {
+        return Start::from(why);
     }
     let total = lists::sum(volumes);
     let solid = oc_start::solid_volume(volumes, passive);
@@ -103,25 +125,24 @@ pub extern "C" fn sokdrib_start(
 pub extern "C" fn sokdrib_project(v: f64, beta: f64) -> Projected
     ensures { (result.density ≡ projected beta v) × (result.slope ≡ projected_slope beta v) }
 {
-    let p = oc_project::project(oc_project::at_steepness(beta), v);
+    let p = Projection::at(beta).project(v);
     Projected {
         density: p.density,
         slope: p.slope,
     }
 }
 
-fn sharpness(sharpen: bool, beta: f64) -> Sharpness
+// The steepness, where the densities are sharpened.
+#[tactic(auto, unfolding(lists::specs::Lists::choose))]
+fn sharpness(sharpen: bool, beta: f64) -> Option<f64>
     ensures { result ≡ sharpness_of sharpen beta }
 {
-    if sharpen {
-        Sharpness::At(beta)
-    } else {
-        Sharpness::Off
-    }
+    if sharpen { Some(beta) } else { None }
 }
 
 // What a solve is given from the design x: each element's density, filtered, and sharpened at the steepness beta where sharpen is set,
 // 1 where it is passive; and how fast each moves with its filtered density. Gives 0, 1 or 14.
+#[tactic(auto, using(crate::proofs::Fronts::refused_by, crate::proofs::Fronts::written))]
 #[unsafe(no_mangle)]
 pub extern "C" fn sokdrib_see(
     starts: &[u32],
@@ -139,15 +160,13 @@ pub extern "C" fn sokdrib_see(
     ensures slope_after { slope.new ≡ left_by result (seen_slope (sharpness_of sharpen beta) starts.now near.now coef.now passive.now x.now) slope.old }
 {
     let n = passive.len();
-    let refused = crate::lengths::refusal(x.len() != n, (density.len() < n) | (slope.len() < n));
-    if refused != 0 {
-        return refused;
+    let short = (density.len() < n) | (slope.len() < n);
+    if let Err(why) = crate::lengths::check(x.len() != n, short) {
+        return u32::from(why);
     }
     let s = sharpness(sharpen, beta);
     oc_seen::see(
-        starts,
-        near,
-        coef,
+        Table { starts, near, coef },
         passive,
         x,
         s,
@@ -159,6 +178,7 @@ pub extern "C" fn sokdrib_see(
 
 // How the work of the loads goes with each design value, from what the solve saw and the energies that it gave. by_density is for the
 // call's own use. Gives 0, 1 or 14.
+#[tactic(auto, using(crate::proofs::Fronts::refused_by, crate::proofs::Fronts::written, crate::proofs::Fronts::worked, lent::proofs::Lent::worked_same))]
 #[unsafe(no_mangle)]
 pub extern "C" fn sokdrib_work_slope(
     starts: &[u32],
@@ -176,17 +196,13 @@ pub extern "C" fn sokdrib_work_slope(
     ensures worked_by { WorkedBy result (length passive.now) by_density.old by_density.new }
 {
     let n = passive.len();
-    let refused = crate::lengths::refusal(
-        (density.len() != n) | (slope.len() != n) | (energies.len() != n),
-        (by_density.len() < n) | (out.len() < n),
-    );
-    if refused != 0 {
-        return refused;
+    let differ = (density.len() != n) | (slope.len() != n) | (energies.len() != n);
+    let short = (by_density.len() < n) | (out.len() < n);
+    if let Err(why) = crate::lengths::check(differ, short) {
+        return u32::from(why);
     }
     oc_slopes::work_slope(
-        starts,
-        near,
-        coef,
+        Table { starts, near, coef },
         passive,
         density,
         slope,
@@ -199,6 +215,7 @@ pub extern "C" fn sokdrib_work_slope(
 
 // How the volume kept goes with each design value, free each element's volume where it is not held solid. by_density is for the call's
 // own use. Gives 0, 1 or 14.
+#[tactic(auto, using(crate::proofs::Fronts::refused_by, crate::proofs::Fronts::written, crate::proofs::Fronts::worked, lent::proofs::Lent::worked_same))]
 #[unsafe(no_mangle)]
 pub extern "C" fn sokdrib_volume_slope(
     starts: &[u32],
@@ -214,17 +231,12 @@ pub extern "C" fn sokdrib_volume_slope(
     ensures worked_by { WorkedBy result (length slope.now) by_density.old by_density.new }
 {
     let n = slope.len();
-    let refused = crate::lengths::refusal(
-        free.len() != n,
-        (by_density.len() < n) | (out.len() < n),
-    );
-    if refused != 0 {
-        return refused;
+    let short = (by_density.len() < n) | (out.len() < n);
+    if let Err(why) = crate::lengths::check(free.len() != n, short) {
+        return u32::from(why);
     }
     oc_slopes::volume_slope(
-        starts,
-        near,
-        coef,
+        Table { starts, near, coef },
         slope,
         free,
         &mut by_density[..n],
@@ -233,6 +245,7 @@ pub extern "C" fn sokdrib_volume_slope(
     0
 }
 
+#[tactic(auto, unfolding(lists::specs::Lists::choose))]
 pub fn rule_of(number: u32, value: f64) -> Rule
     ensures { result ≡ rule_of number value }
 {
@@ -245,6 +258,7 @@ pub fn rule_of(number: u32, value: f64) -> Rule
 
 // The volume that a design y keeps. Rule 0: along the slope straight of the volume, from value, the volume held solid. Any other rule: of the
 // densities that a solve would see at the steepness value. density is for the call's own use.
+#[tactic(auto, using(crate::proofs::Fronts::refused_by, crate::proofs::Fronts::unless_taken, crate::proofs::Fronts::worked, lent::proofs::Lent::worked_same))]
 #[unsafe(no_mangle)]
 pub extern "C" fn sokdrib_kept(
     rule: u32,
@@ -263,21 +277,16 @@ pub extern "C" fn sokdrib_kept(
     ensures worked_by { WorkedBy result.refused (length passive.now) density.old density.new }
 {
     let n = passive.len();
-    let refused = crate::lengths::refusal((volumes.len() != n) | (y.len() != n), density.len() < n);
-    if refused != 0 {
-        return Kept {
-            refused,
-            volume: 0.0,
-        };
+    let differ = (volumes.len() != n) | (y.len() != n);
+    if let Err(why) = crate::lengths::check(differ, density.len() < n) {
+        return Kept::from(why);
     }
     let rule = rule_of(rule, value);
     let volume = oc_kept::kept(
         rule,
         straight,
-        false,
-        starts,
-        near,
-        coef,
+        Table { starts, near, coef },
+        None,
         volumes,
         passive,
         y,

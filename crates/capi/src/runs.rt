@@ -1,12 +1,17 @@
 // A run: opened, and then answered question by question.
 ghost use Rattle.c_numbers.specs.Flat.{goal_of, heard_of, OpenedAs, AnsweredAs};
 
+use c_calls::Job;
 use c_numbers::{RunGoal, RunHeard, RunReturned, RunState, RunStep};
+use filter::work::TableMut;
+use filter_table::Table;
+use run_plain::{Elements, Fields, OpenFields, Work};
 
 // Opens a run on a state with none open: the solid part is asked for, or the refusal's number is told. room is how many records the history has room
 // for; the opening writes none. 1 to 12, 20, and 14 before the first row, leave all lists as before; 13 and 14 at a row leave the filter's lists and the
 // working lists (cell and those after it) zero throughout, and 15, by the flag, the finished filter and the working lists zero. The fresh state is all zero; a
 // phase above 2, and a sharpening above 2 in the state or the goal, is refused with 20.
+#[tactic(auto, using(c_numbers::proofs::Laws::opened_still))]
 #[unsafe(no_mangle)]
 pub extern "C" fn sokdrib_open(
     room: usize,
@@ -39,10 +44,31 @@ pub extern "C" fn sokdrib_open(
         (record { volumes = volumes.now; passive = passive.now; starts = starts.new; near = near.new; coef = coef.new; design = design.new; density = density.new; last = last.now })
         (record { cell = cell.new; order = order.new; first = first.new; sorted = sorted.new; stamp = stamp.new; weight = weight.new; found = found.new; bits = bits.new }) }
 {
-    c_calls::open(
-        room, state, goal, flag, volumes, centroids, passive, mirrors, starts, near, coef, design,
-        density, last, cell, order, first, sorted, stamp, weight, found, bits,
-    )
+    let mut table = TableMut { starts, near, coef };
+    let mut fields = OpenFields {
+        design,
+        density,
+        last,
+    };
+    let mut work = filter::work::Work {
+        cell,
+        order,
+        first,
+        sorted,
+        stamp,
+        weight,
+        found,
+        bits,
+    };
+    let job = Job {
+        volumes,
+        centroids,
+        passive,
+        mirrors,
+        goal,
+        flag,
+    };
+    c_calls::open(room, state, job, &mut table, &mut fields, &mut work)
 }
 
 // The solver's answer to the last question: what is heard of it, and the energies. The filter's lists, the design and both densities are those that the last call left. The record that
@@ -75,8 +101,30 @@ pub extern "C" fn sokdrib_answer(
         (record { volumes = volumes.now; passive = passive.now; starts = starts.now; near = near.now; coef = coef.now; design = design.new; density = density.new; last = last.new })
         (record { free = free.new; slope = slope.new; spare = spare.new; dc = dc.new; dv = dv.new }) }
 {
+    let elements = Elements {
+        volumes,
+        passive,
+        table: Table { starts, near, coef },
+    };
+    let mut fields = Fields {
+        design,
+        density,
+        last,
+    };
+    let mut work = Work {
+        free,
+        slope,
+        spare,
+        dc,
+        dv,
+    };
     c_calls::answer(
-        room, state, heard, energies, volumes, passive, starts, near, coef, design, density, last,
-        free, slope, spare, dc, dv,
+        room,
+        state,
+        heard,
+        energies,
+        elements,
+        &mut fields,
+        &mut work,
     )
 }

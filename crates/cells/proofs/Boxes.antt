@@ -38,9 +38,9 @@ within-last lo hi v =
     (le-or-lt v hi)
 
 -- the column x, y, z0 ..= z1, as its test is written
-pub column-cell : (a b c x y z0 z1 : ℕ) → (((eqb a x && eqb b y) && leb z0 c) && leb c z1) ≡ box_cell a b c x (x + 1) y (y + 1) z0 (z1 + 1)
+pub column_cell : (a b c x y z0 z1 : ℕ) → (((eqb a x && eqb b y) && leb z0 c) && leb c z1) ≡ box_cell a b c x (x + 1) y (y + 1) z0 (z1 + 1)
 unfolding box_cell
-column-cell a b c x y z0 z1 =
+column_cell a b c x y z0 z1 =
     and_assoc (eqb a x && eqb b y) (leb z0 c) (leb c z1) ∙ and_assoc (eqb a x) (eqb b y) (leb z0 c && leb c z1) ∙ rw (within-last z0 z1 c, within-one x a, within-one y b)
 
 module _ (cells : List (List ℕ)) where

@@ -90,8 +90,8 @@ spanned first m n x y z0 z1 h le t e room =
     q = omega arith
 
 -- all positions hold any column
-pub spanned-all : (first : List ℕ) (m n x y z0 z1 : ℕ) → Spanned first m n x y z0 z1 0 n
-spanned-all first m n x y z0 z1 =
+pub spanned_all : (first : List ℕ) (m n x y z0 z1 : ℕ) → Spanned first m n x y z0 z1 0 n
+spanned_all first m n x y z0 z1 =
     record {
       some = λ cells order f k. (omega arith, omega arith);
       holds = λ cells order f k i b. (omega arith, omega (arith, f.place-lt i (box_of cells x (x + 1) y (y + 1) z0 (z1 + 1) i b).0));

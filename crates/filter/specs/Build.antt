@@ -33,6 +33,20 @@ work_needed n = n ∷ n ∷ suc n ∷ n ∷ n ∷ n ∷ n ∷ words ∷ []
 abbrev pub needed : ℕ → List ℕ
 needed n = suc n ∷ work_needed n
 
+-- the working lists alone, and how long they are
+pub record Working : Type 0 where
+  pub cell : List (List ℕ)
+  pub order : List ℕ
+  pub first : List ℕ
+  pub sorted : List (List Float)
+  pub stamp : List ℕ
+  pub weight : List Float
+  pub found : List ℕ
+  pub bits : List ℕ
+
+abbrev pub work_lengths : Working → List ℕ
+work_lengths w = length w.cell ∷ length w.order ∷ length w.first ∷ length w.sorted ∷ length w.stamp ∷ length w.weight ∷ length w.found ∷ length w.bits ∷ []
+
 abbrev pub lengths_of : Lent → List ℕ
 lengths_of l =
     length l.starts ∷ length l.cell ∷ length l.order ∷ length l.first ∷ length l.sorted ∷ length l.stamp ∷ length l.weight ∷ length l.found ∷ length l.bits ∷ []

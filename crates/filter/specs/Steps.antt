@@ -6,7 +6,7 @@ use Rattle.lists.specs.Lists.{choose}
 use Rattle.ieee_root.specs.Sqrt.{sqrt_of}
 
 -- from limit on, a squared distance has a root that is not below the radius
-unfoldable pub Settles : Float → Float → Type 0
+abbrev pub Settles : Float → Float → Type 0
 Settles radius limit = (d : Float) → T (fits binary64 d) → le limit d ≡ true → lt (sqrt_of binary64 d) radius ≡ false
 
 -- 13 and 14 of row e, which ends at `end`, of lists of so many places

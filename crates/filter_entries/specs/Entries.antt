@@ -3,6 +3,8 @@ use Rattle.std.specs.Prelude.{◌≡◌, List, ℕ, ◌+◌, ◌<◌, get_or, se
 use Rattle.std.specs.Float.{nan, binary64}
 use Rattle.std.specs.Float.Ieee.{mul, div}
 use Rattle.lists.specs.Lists.{fold_to, zero64}
+use Rattle.filter.specs.declared.work.TableMut.{TableMut}
+use Rattle.filter_look.specs.declared.met.Met.{Met}
 
 -- no two of them hold the same number
 abbrev pub Apart : List ℕ → ℕ → Type 0
@@ -22,7 +24,10 @@ unfoldable pub cleared : List ℕ → ℕ → List Float → List Float
 unfolding fold_to
 cleared found count w = fold_to (λ k s. set s (get_or found k 0) zero64) w count
 
-pub record Written (at count : ℕ) (sum : Float) (found : List ℕ) (volumes weight : List Float) (near : List ℕ) (coef weight' : List Float) (near' : List ℕ) (coef' : List Float) : Type 0 where
-  pub nears : near' ≡ written at (λ k. get_or found k 0) count near
-  pub coefs : coef' ≡ written at (λ k. div binary64 (product_at found weight volumes k) sum) count coef
-  pub weights : weight' ≡ cleared found count weight
+pub record Written (at : ℕ) (sum : Float) (volumes : List Float) (m : Met) (t : TableMut) (m' : Met) (t' : TableMut) : Type 0 where
+  pub starts : t'.starts.now ≡ t.starts.now
+  pub nears : t'.near.now ≡ written at (λ k. get_or m.found.now k 0) m.count t.near.now
+  pub coefs : t'.coef.now ≡ written at (λ k. div binary64 (product_at m.found.now m.weight.now volumes k) sum) m.count t.coef.now
+  pub weights : m'.weight.now ≡ cleared m.found.now m.count m.weight.now
+  pub stamps : m'.stamp.now ≡ m.stamp.now
+  pub found : m'.found.now ≡ m.found.now

@@ -1,49 +1,44 @@
 // The entries of one row: what its elements come to, their sum, and the writing of them.
 #![tactic(auto)]
 
-ghost use Rattle.std.specs.Prelude.{◌≡◌, ◌+◌, ◌≤◌, ◌<◌, length};
+ghost use Rattle.std.specs.Prelude.{◌≡◌, ◌+◌, ◌≤◌, length};
 ghost use Rattle.lists.specs.Lists.{sum_to};
-ghost use Rattle.filter_look.specs.Steps.{Within};
+ghost use Rattle.filter.specs.Held.{SameTable};
+ghost use Rattle.filter_look.specs.Steps.{Within, Kept};
 ghost use Rattle.filter_entries.specs.Entries.{product_at, Apart, Written};
 
+use filter::work::TableMut;
+use filter_look::met::Met;
+
 // The sum of the row's products, from the left.
-pub fn sum_row(found: &[u32], count: usize, weight: &[f64], volumes: &[f64]) -> f64
-    requires { Within found.now count (length weight.now) × (length weight.now ≡ length volumes.now) }
-    ensures { result ≡ sum_to (product_at found.now weight.now volumes.now) count }
+#[tactic(auto, unfolding(lists::specs::Lists::sum_to, lists::specs::Lists::fold_to))]
+pub fn sum_row(met: &Met, volumes: &[f64]) -> f64
+    requires { Within met.now.found.now met.now.count (length met.now.weight.now) × (length met.now.weight.now ≡ length volumes.now) }
+    ensures { result ≡ sum_to (product_at met.now.found.now met.now.weight.now volumes.now) met.now.count }
 {
-    let mut t = 0.0;
-    let mut k = 0usize;
-    while k < count {
-        let i = found[k] as usize;
-        t = t + weight[i] * volumes[i];
-        k += 1usize;
+    let mut sum = 0.0;
+    for k in 0..met.count {
+        let i = met.found[k] as usize;
+        sum = sum + met.weight[i] * volumes[i];
     }
-    t
+    sum
 }
 
 // Writes the row's entries from `at` on, and sets the weights that it used back to zero.
-pub fn put_row(
-    at: usize,
-    count: usize,
-    sum: f64,
-    found: &[u32],
-    volumes: &[f64],
-    weight: &mut [f64],
-    near: &mut [u32],
-    coef: &mut [f64],
-)
-    requires within { Within found.now count (length weight.old) × Apart found.now count × (length weight.old ≡ length volumes.now) }
-    requires count_in_bounds { (at + count ≤ length near.old) × (at + count ≤ length coef.old) }
-    ensures { Written at count sum found.now volumes.now weight.old near.old coef.old weight.new near.new coef.new }
+pub fn put_row(at: usize, sum: f64, volumes: &[f64], met: &mut Met, table: &mut TableMut)
+    requires within { Within met.old.found.now met.old.count (length met.old.weight.now) × Apart met.old.found.now met.old.count × (length met.old.weight.now ≡ length volumes.now) }
+    requires count_in_bounds { (at + met.old.count ≤ length table.old.near.now) × (at + met.old.count ≤ length table.old.coef.now) }
+    ensures kept { Kept met.old met.new }
+    ensures same { SameTable table.old table.new }
+    ensures written { Written at sum volumes.now met.old table.old met.new table.new }
 {
-    let mut k = 0usize;
-    while k < count {
-        let j = found[k];
+    let count = met.count;
+    for k in 0..count {
+        let j = met.found[k];
         let i = j as usize;
-        let p = weight[i] * volumes[i];
-        weight[i] = 0.0;
-        near[at + k] = j;
-        coef[at + k] = p / sum;
-        k += 1usize;
+        let p = met.weight[i] * volumes[i];
+        met.weight[i] = 0.0;
+        table.near[at + k] = j;
+        table.coef[at + k] = p / sum;
     }
 }

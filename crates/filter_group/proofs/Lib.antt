@@ -1,2 +1,2 @@
--- `Images` has the laws of the group that the functions' proofs cite.
-pub mod Images
+-- `Units` has the law of the planes made of unit length.
+pub mod Units

@@ -1,10 +1,10 @@
 -- filter.rs, `mirror_group`: the planes of symmetry, made of unit length, and the reflections in them. Definitions only.
-use Rattle.std.specs.Prelude.{ℕ, ◌/◌, ◌%◌, ◌^◌, Bool, not, ◌||◌, List, [], ◌∷◌, map, length, get_or, eqb, ltb, Float}
-use Rattle.std.specs.Float.{nan, binary64}
+use Rattle.std.specs.Prelude.{ℕ, ◌/◌, ◌%◌, ◌^◌, Bool, List, [], ◌∷◌, map, length, get_or, eqb, ltb, Float}
+use Rattle.std.specs.Float.{binary64}
 use Rattle.std.specs.Float.Ieee.{lt, of_bits}
 use Rattle.lists.specs.Lists.{any_to, choose}
 use Rattle.ieee.specs.Basic.{abs_of}
-use Rattle.geom.specs.Vectors.{vec, dot, len, normalized, image}
+use Rattle.geom.specs.Vectors.{dot, normalized, image}
 use Rattle.geom.specs.declared.Vec3.{Vec3}
 use Rattle.geom.specs.declared.Mirror.{Mirror}
 use Rattle.geom.specs.Points.{plane}

@@ -1,3 +1,2 @@
--- `Group` has the planes of symmetry and the reflections in them; `Planes` has how the code holds them, which no caller must believe.
+-- `Group` has the planes of symmetry and the reflections in them.
 pub mod Group
-pub mod Planes

@@ -14,12 +14,13 @@ use Rattle.cells.specs.Filing.{Filed}
 use Rattle.cells.proofs.Fit.{cells_fit}
 use Rattle.filter.specs.Filter.{lowest, highest}
 use Rattle.filter.specs.Steps.{Settles}
-use Rattle.filter_look.specs.Steps.{Prepared, Ready}
+use Rattle.filter_look.specs.Ready.{Prepared, Ready}
+use Rattle.filter.specs.declared.grid.Extent.{Extent}
 
 pub prepared : (centroids : List (List Float)) (lo : Vec3) (radius : Float) (cell₀ cell : List (List ℕ)) (order first : List ℕ) (sorted₀ sorted : List (List Float)) (m : ℕ)
     → length cell₀ ≡ length centroids → length sorted₀ ≡ length centroids
     → cell ≡ overwrite (λ i. cell_of (get_or centroids i []) lo radius) (min (length centroids) (length cell₀)) cell₀ → Filed cell order first m
-    → sorted ≡ overwrite (λ k. get_or centroids (get_or order k 0) []) (length centroids) sorted₀ → Prepared centroids lo radius cell order first sorted m
+    → sorted ≡ overwrite (λ k. get_or centroids (get_or order k 0) []) (length centroids) sorted₀ → Prepared centroids lo radius cell order first m sorted
 prepared centroids lo radius cell₀ cell order first sorted₀ sorted m cn sn ce f se =
     let at : ℕ → List ℕ = λ i. cell_of (get_or centroids i []) lo radius in
     let whole : cell ≡ overwrite at (length cell₀) cell₀ = ce ∙ ap (λ (k : ℕ). overwrite at k cell₀) (omega arith) in
@@ -33,15 +34,19 @@ prepared centroids lo radius cell₀ cell order first sorted₀ sorted m cn sn c
       arranged = λ k lt. ap (λ (l : List (List Float)). get_or l k []) se ∙ get_or-overwrite-below (λ k. get_or centroids (get_or order k 0) []) (length centroids) sorted₀ k [] (omega arith) (omega arith);
     }
 
-pub ready : (centroids : List (List Float)) (lo hi : Vec3) (radius limit : Float) (cell : List (List ℕ)) (order first : List ℕ) (sorted : List (List Float)) (m : ℕ)
-    → lo ≡ lowest centroids → hi ≡ highest centroids → Settles radius limit → length centroids < 65536 → Prepared centroids lo radius cell order first sorted m
-    → Ready centroids (record { lo = lo; hi = hi; radius = radius; limit = limit; buckets = m }) cell order first sorted
-ready centroids lo hi radius limit cell order first sorted m el eh s few p =
+pub ready : (centroids : List (List Float)) (extent : Extent) (radius limit : Float) (cell : List (List ℕ)) (order first : List ℕ) (m : ℕ) (sorted : List (List Float))
+    → extent.lo ≡ lowest centroids → extent.hi ≡ highest centroids → Settles radius limit → length centroids < 65536 → Prepared centroids extent.lo radius cell order first m sorted
+    → Ready extent radius limit centroids cell order first m sorted
+ready centroids extent radius limit cell order first m sorted el eh s few p =
     record {
       lo = el;
       hi = eh;
       settles = s;
-      filed = p.filed;
+      filed = ∣ p.filed ∣₁;
+      some = p.filed.some;
+      firsts = p.filed.firsts;
+      orders = p.filed.orders;
+      elements = p.filed.order_lt;
       many = p.many;
       few = omega (arith, p.many);
       cubes = λ i lt. p.cubes i lt ∙ ap (λ (v : Vec3). cell_of (get_or centroids i []) v radius) el;

@@ -1,61 +1,26 @@
 // The elements that a row meets, under each member of the group in turn.
-ghost use Rattle.std.specs.Prelude.{◌≡◌, ◌^◌, ◌≤◌, ◌<◌, length};
-ghost use Rattle.filter_group.specs.Group.{mirrors, members};
-ghost use Rattle.filter_group.specs.Planes.{mirrors_of};
-ghost use Rattle.filter_look.specs.Steps.{Ready, Lists, Gathered};
+ghost use Rattle.std.specs.Prelude.{◌<◌, length};
+ghost use Rattle.filter_group.specs.Group.{members};
+ghost use Rattle.filter_look.specs.Steps.{Lists, Kept, Gathered};
 
-use filter::grid::Grid;
 use filter_group::Planes;
+use filter_look::grid::Grid;
+use filter_look::met::Met;
+use geom::Vec3;
 
-// How many members the group of so many planes has.
-fn members_of(count: usize) -> usize
-    requires { count ≤ 3 }
-    ensures { result ≡ 2 ^ count }
+// Meets the elements of row e.
+pub fn gather(g: &Grid, planes: Planes, e: usize, met: &mut Met)
+    requires there { e < length g.now.centroids.now }
+    requires lists { Lists (length g.now.cell.now) met.old }
+    requires gathered { Gathered g.now.centroids.now g.now.radius planes.lent.now e 0 met.old }
+    ensures kept { Kept met.old met.new }
+    ensures lists_2 { Lists (length g.now.cell.now) met.new }
+    ensures gathered_2 { Gathered g.now.centroids.now g.now.radius planes.entry.lent.now e (members planes.entry.lent.now) met.new }
 {
-    if count == 0 {
-        return 1;
+    let middle = Vec3::from(g.centroids[e]);
+    let end = 1 << planes.lent.len();
+    for k in 0..end {
+        let q = filter_group::image_of(k, planes.units, middle);
+        crate::walk::around(g, q, met);
     }
-    if count == 1 {
-        return 2;
-    }
-    if count == 2 {
-        return 4;
-    }
-    8
-}
-
-// Meets the elements of row e: `held` are the planes made of unit length.
-pub fn gather(
-    g: Grid,
-    held: Planes,
-    e: usize,
-    mark: u32,
-    planes: &[[f64; 6]],
-    centroids: &[[f64; 3]],
-    cell: &[[u64; 3]],
-    order: &[u32],
-    first: &[u32],
-    sorted: &[[f64; 3]],
-    stamp: &mut [u32],
-    weight: &mut [f64],
-    bits: &mut [u64],
-) -> usize
-    requires ready { Ready centroids.now g cell.now order.now first.now sorted.now × (e < length centroids.now) × (length planes.now ≤ 3) × (mirrors_of held ≡ mirrors planes.now) }
-    requires lists { Lists (length cell.now) mark 0 stamp.old weight.old bits.old }
-    requires gathered { Gathered centroids.now g.radius planes.now e mark 0 stamp.old weight.old }
-    ensures lists_2 { Lists (length cell.now) mark result stamp.new weight.new bits.new }
-    ensures gathered_2 { Gathered centroids.now g.radius planes.now e mark (members planes.now) stamp.new weight.new }
-{
-    let end = members_of(planes.len());
-    let middle = lent::point(centroids[e]);
-    let mut count = 0usize;
-    let mut k = 0usize;
-    while k < end {
-        let q = filter_group::image_of(k, held, middle);
-        count = crate::walk::around(
-            g, q, mark, count, centroids, cell, order, first, sorted, stamp, weight, bits,
-        );
-        k += 1usize;
-    }
-    count
 }

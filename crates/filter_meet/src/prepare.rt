@@ -1,10 +1,11 @@
 // What the rows go by, made once: the cubes, the filing by cubes, the middles in its order.
 ghost use Rattle.std.specs.Prelude.{◌≡◌, ◌+◌, ◌<◌, length};
-ghost use Rattle.filter_look.specs.Steps.{Prepared};
+ghost use Rattle.filter_look.specs.Ready.{Prepared};
 
 use geom::Vec3;
 
 // Files the elements and tells the number of buckets. `place` is to work in.
+// Stays a row of lists, since `fill_table` of filter_rows has them so.
 pub fn file_all(
     centroids: &[[f64; 3]],
     lo: Vec3,
@@ -17,10 +18,10 @@ pub fn file_all(
 ) -> usize
     requires centroids_nonzero { (0 < length centroids.now) × (length centroids.now < 65536) }
     requires cell_len { (length cell.old ≡ length centroids.now) × (length order.old ≡ length centroids.now) × (length first.old ≡ length centroids.now + 1) × (length sorted.old ≡ length centroids.now) × (length place.old ≡ length centroids.now) }
-    ensures { Prepared centroids.now lo radius cell.new order.new first.new sorted.new result }
+    ensures { Prepared centroids.now lo radius cell.new order.new first.new result sorted.new }
 {
     cells::cells_of(centroids, lo, radius, cell);
-    let m = cells_file::file(cell, order, place, first);
+    let buckets = cells_file::file(cell, order, place, first);
     cells_file::arrange(centroids, order, sorted);
-    m
+    buckets
 }

@@ -1,198 +1,56 @@
 // The elements near a point: the columns of cubes about it, each a run of positions.
-ghost use Rattle.std.specs.Prelude.{◌≡◌, ◌+◌, ◌^◌, ◌≤◌, ◌<◌, length, get_or};
+ghost use Rattle.std.specs.Prelude.{length};
 ghost use Rattle.filter.specs.Filter.{counts};
-ghost use Rattle.filter_look.specs.Steps.{gained, near_box, Ready, Lists, Took};
+ghost use Rattle.filter_look.specs.Steps.{gained, Lists, Kept, Took};
+ghost use Rattle.filter_meet.specs.Searches.{Ready, Done};
+ghost use Rattle.filter_meet.specs.Laws.{search_laws};
 
-use filter::grid::Grid;
+use cells::{Block, Column};
+use cells_walk::Walker;
+use filter_look::grid::{Grid, Sight};
+use filter_look::met::Met;
 use geom::Vec3;
 
-// Meets the elements of the column x, y, z0 ..= z1 that are nearer to q than the radius.
-fn column(
-    g: Grid,
+// Meets the elements that are nearer to q than the radius.
+#[derive(Drop)]
+struct Search<'a, 'b> {
+    g: &'a Grid<'a>,
     q: Vec3,
-    x: u64,
-    y: u64,
-    z0: u64,
-    z1: u64,
-    mark: u32,
-    from: usize,
-    centroids: &[[f64; 3]],
-    cell: &[[u64; 3]],
-    order: &[u32],
-    first: &[u32],
-    sorted: &[[f64; 3]],
-    stamp: &mut [u32],
-    weight: &mut [f64],
-    bits: &mut [u64],
-) -> usize
-    requires ready { Ready centroids.now g cell.now order.now first.now sorted.now }
-    requires lists { Lists (length cell.now) mark from stamp.old weight.old bits.old }
-    ensures { Took (near_box centroids.now g q cell.now x (x + 1) y (y + 1) z0 (z1 + 1)) (gained centroids.now g.radius q) mark stamp.old weight.old stamp.new weight.new result }
-{
-    let m = g.buckets;
-    let s = cells::span(first, m, cell.len(), x, y, z0, z1);
-    let mut k = s.from;
-    let to = s.to;
-    let mut count = from;
-    while k < to {
-        count = filter_look::look(
-            g, q, k, x, y, z0, z1, mark, count, cell, order, sorted, stamp, weight, bits,
-        );
-        k += 1usize;
-    }
-    count
+    met: &'a mut Met<'b>,
 }
 
-// The same in the columns x, y0 ..= y1.
-fn plane(
-    g: Grid,
-    q: Vec3,
-    x: u64,
-    y0: u64,
-    y1: u64,
-    z0: u64,
-    z1: u64,
-    mark: u32,
-    from: usize,
-    centroids: &[[f64; 3]],
-    cell: &[[u64; 3]],
-    order: &[u32],
-    first: &[u32],
-    sorted: &[[f64; 3]],
-    stamp: &mut [u32],
-    weight: &mut [f64],
-    bits: &mut [u64],
-) -> usize
-    requires ready { Ready centroids.now g cell.now order.now first.now sorted.now × (y0 ≤ y1) × (y1 < y0 + 2 ^ 32) }
-    requires lists { Lists (length cell.now) mark from stamp.old weight.old bits.old }
-    ensures { Took (near_box centroids.now g q cell.now x (x + 1) y0 (y1 + 1) z0 (z1 + 1)) (gained centroids.now g.radius q) mark stamp.old weight.old stamp.new weight.new result }
-{
-    let more = y1 - y0;
-    let mut count = from;
-    let mut j = 0;
-    while j <= more {
-        count = column(
-            g,
-            q,
-            x,
-            y0 + j,
-            z0,
-            z1,
-            mark,
-            count,
-            centroids,
-            cell,
-            order,
-            first,
-            sorted,
-            stamp,
-            weight,
-            bits,
-        );
-        j += 1;
-    }
-    count
-}
+impl Walker for Search<'_, '_> {
+    ghost Ready = { Ready };
 
-// The same in the box x0 ..= x1, y0 ..= y1, z0 ..= z1.
-fn block(
-    g: Grid,
-    q: Vec3,
-    x0: u64,
-    x1: u64,
-    y0: u64,
-    y1: u64,
-    z0: u64,
-    z1: u64,
-    mark: u32,
-    from: usize,
-    centroids: &[[f64; 3]],
-    cell: &[[u64; 3]],
-    order: &[u32],
-    first: &[u32],
-    sorted: &[[f64; 3]],
-    stamp: &mut [u32],
-    weight: &mut [f64],
-    bits: &mut [u64],
-) -> usize
-    requires ready { Ready centroids.now g cell.now order.now first.now sorted.now × (y0 ≤ y1) × (y1 < y0 + 2 ^ 32) × (x0 ≤ x1) × (x1 < x0 + 2 ^ 32) }
-    requires lists { Lists (length cell.now) mark from stamp.old weight.old bits.old }
-    ensures { Took (near_box centroids.now g q cell.now x0 (x1 + 1) y0 (y1 + 1) z0 (z1 + 1)) (gained centroids.now g.radius q) mark stamp.old weight.old stamp.new weight.new result }
-{
-    let more = x1 - x0;
-    let mut count = from;
-    let mut j = 0;
-    while j <= more {
-        count = plane(
-            g,
-            q,
-            x0 + j,
-            y0,
-            y1,
-            z0,
-            z1,
-            mark,
-            count,
-            centroids,
-            cell,
-            order,
-            first,
-            sorted,
-            stamp,
-            weight,
-            bits,
-        );
-        j += 1;
+    ghost Done = { Done };
+
+    ghost laws = { search_laws };
+
+    fn column(&mut self, c: Column) {
+        let g = self.g;
+        let sight = Sight {
+            radius: g.radius,
+            limit: g.limit,
+            cell: g.cell,
+            order: g.order,
+            sorted: g.sorted,
+        };
+        let run = c.span(g.first, g.buckets, g.cell.len());
+        for k in run.start..run.end {
+            filter_look::look(sight, self.q, c, k, self.met);
+        }
     }
-    count
 }
 
 // Meets the elements that count for the image q.
-pub fn around(
-    g: Grid,
-    q: Vec3,
-    mark: u32,
-    from: usize,
-    centroids: &[[f64; 3]],
-    cell: &[[u64; 3]],
-    order: &[u32],
-    first: &[u32],
-    sorted: &[[f64; 3]],
-    stamp: &mut [u32],
-    weight: &mut [f64],
-    bits: &mut [u64],
-) -> usize
-    requires ready { Ready centroids.now g cell.now order.now first.now sorted.now }
-    requires lists { Lists (length cell.now) mark from stamp.old weight.old bits.old }
-    ensures { Took (counts centroids.now g.radius q) (gained centroids.now g.radius q) mark stamp.old weight.old stamp.new weight.new result }
+pub fn around(g: &Grid, q: Vec3, met: &mut Met)
+    requires { Lists (length g.now.cell.now) met.old }
+    ensures kept { Kept met.old met.new }
+    ensures took { Took (counts g.now.centroids.now g.now.radius q) (gained g.now.centroids.now g.now.radius q) met.old met.new }
 {
-    let lo = g.lo;
-    let hi = g.hi;
-    let radius = g.radius;
-    if filter::grid::is_outside(lo, hi, radius, q) {
-        return from;
+    if g.extent.is_outside(g.radius, q) {
+        return;
     }
-    let x = cells::cell_of(q.x, lo.x, radius);
-    let y = cells::cell_of(q.y, lo.y, radius);
-    let z = cells::cell_of(q.z, lo.z, radius);
-    block(
-        g,
-        q,
-        cells::below(x),
-        cells::above(x),
-        cells::below(y),
-        cells::above(y),
-        cells::below(z),
-        cells::above(z),
-        mark,
-        from,
-        centroids,
-        cell,
-        order,
-        first,
-        sorted,
-        stamp,
-        weight,
-        bits,
-    )
+    let cube = cells::cube_of(<[f64; 3]>::from(q), g.extent.lo, g.radius);
+    cells_walk::walk(&mut Search { g, q, met }, Block::about(cube, cube));
 }

@@ -1,31 +1,40 @@
 -- What the steps of the code promise each other: one row written. What a caller must believe is said by `Build` of crate filter alone. Definitions only.
 use Rattle.std.specs.Prelude.{◌≡◌, List, ℕ, ◌+◌, ◌≤◌, ◌<◌, length, get_or, take, Float}
-use Rattle.std.specs.Float.{nan}
+use Rattle.std.specs.Float.{nan, binary64}
+use Rattle.std.specs.Float.Ieee.{div}
 use Rattle.lists.specs.Lists.{sum_to, zero64}
 use Rattle.filter.specs.Filter.{chosen, columns, coefficient}
 use Rattle.filter.specs.Steps.{room_refusal}
+use Rattle.filter.specs.declared.work.TableMut.{TableMut}
 use Rattle.filter_look.specs.Steps.{stamped}
-use Rattle.filter_entries.specs.Entries.{product_at, written, Written}
+use Rattle.filter_look.specs.declared.met.Met.{Met}
+use Rattle.filter_entries.specs.Entries.{product_at, written, cleared}
 
 -- the elements that bear the mark, as found, weighed by what stood in the weights
-pub record Settled (e at mark count : ℕ) (volumes : List Float) (stamp : List ℕ) (weight : List Float) (near : List ℕ) (coef : List Float) (number end : ℕ) (found : List ℕ) (weight' : List Float) (near' : List ℕ) (coef' : List Float) : Type 0 where
-  pub ends : end ≡ at + count
-  pub numbers : number ≡ room_refusal e end (length near) (length coef)
-  pub all : number ≡ 0 → take count found ≡ chosen (stamped stamp mark) (length stamp)
-  pub writes : number ≡ 0 → Written at count (sum_to (product_at found weight volumes) count) found volumes weight near coef weight' near' coef'
+pub record Settled (e at : ℕ) (volumes : List Float) (m : Met) (t : TableMut) (number end : ℕ) (m' : Met) (t' : TableMut) : Type 0 where
+  pub ends : end ≡ at + m.count
+  pub numbers : number ≡ room_refusal e end (length t.near.now) (length t.coef.now)
+  pub starts : t'.starts.now ≡ t.starts.now
+  pub stamps : number ≡ 0 → m'.stamp.now ≡ m.stamp.now
+  pub all : number ≡ 0 → take m.count m'.found.now ≡ chosen (stamped m.stamp.now m.mark) (length m.stamp.now)
+  pub weights : number ≡ 0 → m'.weight.now ≡ cleared m'.found.now m.count m.weight.now
+  pub nears : number ≡ 0 → t'.near.now ≡ written at (λ k. get_or m'.found.now k 0) m.count t.near.now
+  pub coefs : number ≡ 0 → t'.coef.now ≡ written at (λ k. div binary64 (product_at m'.found.now m.weight.now volumes k) (sum_to (product_at m'.found.now m.weight.now volumes) m.count)) m.count t.coef.now
 
 -- before row e: no weights, and no marks from e + 1 on
-pub record Clean (n e : ℕ) (stamp : List ℕ) (weight : List Float) (bits : List ℕ) : Type 0 where
+pub record Clean (n e : ℕ) (m : Met) : Type 0 where
   pub few : n < 65536
-  pub stamps : length stamp ≡ n
-  pub weights : length weight ≡ n
-  pub maps : 1040 ≤ length bits
-  pub zero : (i : ℕ) → i < n → get_or weight i nan ≡ zero64
-  pub most : (i : ℕ) → i < n → get_or stamp i 0 ≤ e
+  pub stamps : length m.stamp.now ≡ n
+  pub weights : length m.weight.now ≡ n
+  pub maps : 1040 ≤ length m.bits.now
+  pub founds : n ≤ length m.found.now
+  pub zero : (i : ℕ) → i < n → get_or m.weight.now i nan ≡ zero64
+  pub most : (i : ℕ) → i < n → get_or m.stamp.now i 0 ≤ e
 
 -- row e written from `at` on
-pub record Rowed (centroids : List (List Float)) (radius : Float) (planes : List (List Float)) (volumes : List Float) (e at : ℕ) (near : List ℕ) (coef : List Float) (number end : ℕ) (near' : List ℕ) (coef' : List Float) : Type 0 where
+pub record Rowed (centroids : List (List Float)) (radius : Float) (planes : List (List Float)) (volumes : List Float) (e at : ℕ) (t : TableMut) (number end : ℕ) (t' : TableMut) : Type 0 where
   pub ends : end ≡ at + length (columns centroids radius planes e)
-  pub numbers : number ≡ room_refusal e end (length near) (length coef)
-  pub nears : number ≡ 0 → near' ≡ written at (λ k. get_or (columns centroids radius planes e) k 0) (length (columns centroids radius planes e)) near
-  pub coefs : number ≡ 0 → coef' ≡ written at (λ k. coefficient centroids radius planes volumes e (get_or (columns centroids radius planes e) k 0)) (length (columns centroids radius planes e)) coef
+  pub numbers : number ≡ room_refusal e end (length t.near.now) (length t.coef.now)
+  pub starts : t'.starts.now ≡ t.starts.now
+  pub nears : number ≡ 0 → t'.near.now ≡ written at (λ k. get_or (columns centroids radius planes e) k 0) (length (columns centroids radius planes e)) t.near.now
+  pub coefs : number ≡ 0 → t'.coef.now ≡ written at (λ k. coefficient centroids radius planes volumes e (get_or (columns centroids radius planes e) k 0)) (length (columns centroids radius planes e)) t.coef.now

@@ -16,6 +16,8 @@ use Rattle.filter.specs.Filter.{joined, columns, neighbours, start, coefficient,
 use Rattle.filter.specs.Build.{too_big, too_short, row_refusal, rows_refusal}
 use Rattle.filter.specs.Steps.{room_refusal}
 use Rattle.filter_entries.specs.Entries.{written}
+use Rattle.filter.specs.Held.{SameTable}
+use Rattle.filter.specs.declared.work.TableMut.{TableMut}
 use Rattle.filter_row.specs.Row.{Rowed}
 use Rattle.filter_rows.specs.Steps.{Filled}
 use Rattle.filter_row.proofs.Room.{has_room}
@@ -200,13 +202,13 @@ module _ (centroids : List (List Float)) (radius : Float) (planes : List (List F
         many-coefs = refl;
       }
 
-  module _ (starts₀ near₀ : List ℕ) (coef₀ : List Float) (e at : ℕ) (starts near : List ℕ) (coef : List Float) (l : Laid centroids radius planes volumes starts₀ near₀ coef₀ e at starts near coef)
-      (number end : ℕ) (near' : List ℕ) (coef' : List Float) (r : Rowed centroids radius planes volumes e at near coef number end near' coef') where
+  module _ (starts₀ near₀ : List ℕ) (coef₀ : List Float) (e at : ℕ) (t : TableMut) (l : Laid centroids radius planes volumes starts₀ near₀ coef₀ e at t.starts.now t.near.now t.coef.now)
+      (number end : ℕ) (t' : TableMut) (r : Rowed centroids radius planes volumes e at t number end t') where
     end_is : end ≡ start centroids radius planes (e + 1)
     end_is = r.ends ∙ ap (λ (k : ℕ). k + length (columns centroids radius planes e)) l.at-is ∙ sym (start-more centroids radius planes e)
 
     room-is : number ≡ room_refusal e end (length near₀) (length coef₀)
-    room-is = r.numbers ∙ ap (λ (k : ℕ). room_refusal e end k (length coef)) l.many-nears ∙ ap (room_refusal e end (length near₀)) l.many-coefs
+    room-is = r.numbers ∙ ap (λ (k : ℕ). room_refusal e end k (length t.coef.now)) l.many-nears ∙ ap (room_refusal e end (length near₀)) l.many-coefs
 
     refused : rows_refusal centroids radius planes (length near₀) (length coef₀) (e + 1) ≡ number
     refused = refusal-more centroids radius planes (length near₀) (length coef₀) e number l.none (room-is ∙ row-refusal centroids radius planes (length near₀) (length coef₀) e end end_is)
@@ -225,28 +227,39 @@ module _ (centroids : List (List Float)) (radius : Float) (planes : List (List F
       pub end-small : end < 2147483648
       end-small = omega (arith, fits.0)
 
-      pub laid_next : e + 1 < length starts₀ → length near' ≡ length near → length coef' ≡ length coef → Laid centroids radius planes volumes starts₀ near₀ coef₀ (e + 1) end (set starts (e + 1) end) near' coef'
-      laid_next lt ns cs =
+      pub laid_next : e + 1 < length starts₀ → SameTable t t' → Laid centroids radius planes volumes starts₀ near₀ coef₀ (e + 1) end (set t'.starts.now (e + 1) end) t'.near.now t'.coef.now
+      laid_next lt same =
           record {
             at-is = end_is;
             small = end-small;
             none = refused ∙ ok;
             begins =
-                ap (λ (s : List ℕ). set s (e + 1) end) l.begins ∙ ap (set (overwrite (start centroids radius planes) (e + 1) starts₀) (e + 1)) end_is
+                ap (λ (s : List ℕ). set s (e + 1) end) (r.starts ∙ l.begins) ∙ ap (set (overwrite (start centroids radius planes) (e + 1) starts₀) (e + 1)) end_is
                 ∙ overwrite-more (start centroids radius planes) (e + 1) starts₀ lt;
             nears =
-                near-more centroids radius planes e near₀ near near' (omega (arith, fits.1, r.ends, l.at-is)) l.nears
-                (r.nears ok ∙ ap (λ (k : ℕ). written k (λ j. get_or (columns centroids radius planes e) j 0) (length (columns centroids radius planes e)) near) l.at-is);
+                near-more centroids radius planes e near₀ t.near.now t'.near.now (omega (arith, fits.1, r.ends, l.at-is)) l.nears
+                (r.nears ok ∙ ap (λ (k : ℕ). written k (λ j. get_or (columns centroids radius planes e) j 0) (length (columns centroids radius planes e)) t.near.now) l.at-is);
             coefs =
-                coef-more centroids radius planes volumes e coef₀ coef coef' (omega (arith, fits.2, r.ends, l.at-is)) l.coefs
-                (r.coefs ok ∙ ap (λ (k : ℕ). written k (λ j. coefficient centroids radius planes volumes e (get_or (columns centroids radius planes e) j 0)) (length (columns centroids radius planes e)) coef) l.at-is);
-            many-starts = length-set starts (e + 1) end ∙ l.many-starts;
-            many-nears = ns ∙ l.many-nears;
-            many-coefs = cs ∙ l.many-coefs;
+                coef-more centroids radius planes volumes e coef₀ t.coef.now t'.coef.now (omega (arith, fits.2, r.ends, l.at-is)) l.coefs
+                (r.coefs ok ∙ ap (λ (k : ℕ). written k (λ j. coefficient centroids radius planes volumes e (get_or (columns centroids radius planes e) j 0)) (length (columns centroids radius planes e)) t.coef.now) l.at-is);
+            many-starts = length-set t'.starts.now (e + 1) end ∙ same.starts-long ∙ l.many-starts;
+            many-nears = same.near-long ∙ l.many-nears;
+            many-coefs = same.coef-long ∙ l.many-coefs;
           }
 
-  pub laid-all : (lent near₀ : List ℕ) (coef₀ : List Float) (n at : ℕ) (starts near : List ℕ) (coef : List Float) → n ≡ length centroids
-      → Laid centroids radius planes volumes (set lent 0 0) near₀ coef₀ n at starts near coef → Filled centroids radius planes volumes lent near₀ coef₀ 0 starts near coef
-  laid-all lent near₀ coef₀ n at starts near coef e l =
+  -- a row is refused, and so are all
+  pub filled-refused : (t₀ : TableMut) (e at : ℕ) (t : TableMut) (l : Laid centroids radius planes volumes (set t₀.starts.now 0 0) t₀.near.now t₀.coef.now e at t.starts.now t.near.now t.coef.now)
+      (number end : ℕ) (t' : TableMut) (r : Rowed centroids radius planes volumes e at t number end t') → e < length centroids → 0 < number → Filled centroids radius planes volumes t₀ number t'
+  filled-refused t₀ e at t l number end t' r lt some =
+      record {
+        numbers = laid-refused (set t₀.starts.now 0 0) t₀.near.now t₀.coef.now e at t l number end t' r (length centroids) lt some;
+        begins = λ q. absurd (omega arith);
+        nears = λ q. absurd (omega arith);
+        coefs = λ q. absurd (omega arith);
+      }
+
+  pub filled-all : (t₀ : TableMut) (n at : ℕ) (t : TableMut) → n ≡ length centroids
+      → Laid centroids radius planes volumes (set t₀.starts.now 0 0) t₀.near.now t₀.coef.now n at t.starts.now t.near.now t.coef.now → Filled centroids radius planes volumes t₀ 0 t
+  filled-all t₀ n at t e l =
       let k = rw e at l in
-      record { numbers = sym k.none; begins = λ _. k.begins ∙ overwrite-set (start centroids radius planes) (length centroids + 1) lent 0 0 (omega arith); nears = λ _. k.nears; coefs = λ _. k.coefs }
+      record { numbers = sym k.none; begins = λ _. k.begins ∙ overwrite-set (start centroids radius planes) (length centroids + 1) t₀.starts.now 0 0 (omega arith); nears = λ _. k.nears; coefs = λ _. k.coefs }

@@ -1,18 +1,22 @@
 // The table, in working lists that are as long as needed.
-ghost use Rattle.std.specs.Prelude.{◌+◌, length};
+ghost use Rattle.std.specs.Prelude.{length};
+ghost use Rattle.refusal.specs.Refusals.{refused};
+ghost use Rattle.filter.specs.Build.{Working};
+ghost use Rattle.filter.specs.Held.{working, SameTable, SameWork};
 ghost use Rattle.filter_rows.specs.Steps.{Filled, Sized, Roomy, Past};
 
-use filter::grid::Grid;
+use filter::grid::Extent;
+use filter::work::{Input, TableMut, Work};
+use filter_group::Planes;
+use filter_look::grid::Grid;
+use filter_look::met::Met;
+use geom::Mirror;
+use refusal::Refusal;
 
-// The number of the first row that is refused, or 0.
-pub fn fill_table(
-    centroids: &[[f64; 3]],
-    volumes: &[f64],
-    radius: f64,
-    planes: &[[f64; 6]],
-    starts: &mut [u32],
-    near: &mut [u32],
-    coef: &mut [f64],
+// Stays a row of lists: the borrow checker does not cover parts of a lent `Work` that are put into a second one, of which a `Grid` borrows some.
+fn fill_table(
+    input: Input,
+    table: &mut TableMut,
     cell: &mut [[u64; 3]],
     order: &mut [u32],
     first: &mut [u32],
@@ -21,72 +25,76 @@ pub fn fill_table(
     weight: &mut [f64],
     found: &mut [u32],
     bits: &mut [u64],
-) -> u32
-    requires { Sized (length centroids.now) (length volumes.now) (length planes.now) (length starts.old) (length cell.old) (length order.old) (length first.old) (length sorted.old) (length stamp.old) (length weight.old) (length found.old) (length bits.old) }
-    ensures { Filled centroids.now radius planes.now volumes.now starts.old near.old coef.old result starts.new near.new coef.new }
+) -> Result<(), Refusal>
+    requires { Sized (length input.centroids.now) (length input.volumes.now) (length input.planes.now) (length table.old.starts.now)
+        (record { cell = cell.old; order = order.old; first = first.old; sorted = sorted.old; stamp = stamp.old; weight = weight.old; found = found.old; bits = bits.old }) }
+    ensures same { SameTable table.old table.new }
+    ensures filled { Filled input.entry.centroids.now input.entry.radius input.entry.planes.now input.entry.volumes.now table.old (refused result) table.new }
 {
-    let lo = filter::grid::lower(centroids);
-    let hi = filter::grid::upper(centroids);
-    let limit = filter::grid::limit_of(radius);
-    let held = filter_group::unit_planes(planes);
-    let buckets = filter_meet::prepare::file_all(
-        centroids, lo, radius, cell, order, first, sorted, found,
-    );
-    zero::words(stamp);
-    zero::floats(weight);
-    zero::longs(bits);
-    let g = Grid {
-        lo,
-        hi,
-        radius,
-        limit,
-        buckets,
+    let extent = Extent::of(input.centroids);
+    let limit = filter::grid::limit_of(input.radius);
+    let count = input.planes.len();
+    let mut held = [Mirror::from([0.0; 6]); 3];
+    filter_group::make_units(input.planes, &mut held[..count]);
+    let planes = Planes {
+        lent: input.planes,
+        units: &held[..count],
     };
-    crate::rows::all_rows(
-        g, held, planes, centroids, volumes, cell, order, first, sorted, stamp, weight, bits,
-        found, starts, near, coef,
-    )
+    let buckets = filter_meet::prepare::file_all(
+        input.centroids,
+        extent.lo,
+        input.radius,
+        cell,
+        order,
+        first,
+        sorted,
+        found,
+    );
+    stamp.fill(0);
+    weight.fill(0.0);
+    bits.fill(0);
+    let g = Grid {
+        extent,
+        radius: input.radius,
+        limit,
+        centroids: input.centroids,
+        cell,
+        order,
+        first,
+        buckets,
+        sorted,
+    };
+    let mut met = Met {
+        mark: 0,
+        count: 0,
+        stamp,
+        weight,
+        bits,
+        found,
+    };
+    crate::rows::all_rows(&g, planes, input.volumes, &mut met, table)
 }
 
 // The same in working lists that may be longer, of which the places past those needed are left as they were lent.
-pub fn fill_front(
-    centroids: &[[f64; 3]],
-    volumes: &[f64],
-    radius: f64,
-    planes: &[[f64; 6]],
-    starts: &mut [u32],
-    near: &mut [u32],
-    coef: &mut [f64],
-    cell: &mut [[u64; 3]],
-    order: &mut [u32],
-    first: &mut [u32],
-    sorted: &mut [[f64; 3]],
-    stamp: &mut [u32],
-    weight: &mut [f64],
-    found: &mut [u32],
-    bits: &mut [u64],
-) -> u32
-    requires { Roomy (length centroids.now) (length volumes.now) (length planes.now) (length starts.old) (length cell.old) (length order.old) (length first.old) (length sorted.old) (length stamp.old) (length weight.old) (length found.old) (length bits.old) }
-    ensures filled { Filled centroids.now radius planes.now volumes.now starts.old near.old coef.old result starts.new near.new coef.new }
-    ensures past { Past (length centroids.now) cell.old order.old first.old sorted.old stamp.old weight.old found.old bits.old cell.new order.new first.new sorted.new stamp.new weight.new found.new bits.new }
+pub fn fill_front(input: Input, table: &mut TableMut, work: &mut Work) -> Result<(), Refusal>
+    requires { Roomy (length input.centroids.now) (length input.volumes.now) (length input.planes.now) (length table.old.starts.now) (working work.old) }
+    ensures same_table { SameTable table.old table.new }
+    ensures same_work { SameWork work.old work.new }
+    ensures filled { Filled input.entry.centroids.now input.entry.radius input.entry.planes.now input.entry.volumes.now table.old (refused result) table.new }
+    ensures past { Past (length input.entry.centroids.now) (working work.old) (working work.new) }
 {
-    let n = centroids.len();
+    let n = input.centroids.len();
     let m = n + 1;
     fill_table(
-        centroids,
-        volumes,
-        radius,
-        planes,
-        starts,
-        near,
-        coef,
-        &mut cell[..n],
-        &mut order[..n],
-        &mut first[..m],
-        &mut sorted[..n],
-        &mut stamp[..n],
-        &mut weight[..n],
-        &mut found[..n],
-        &mut bits[..1040],
+        input,
+        table,
+        &mut work.cell[..n],
+        &mut work.order[..n],
+        &mut work.first[..m],
+        &mut work.sorted[..n],
+        &mut work.stamp[..n],
+        &mut work.weight[..n],
+        &mut work.found[..n],
+        &mut work.bits[..1040],
     )
 }

@@ -82,7 +82,7 @@ module _ (centroids : List (List Float)) (radius : Float) (planes : List (List F
     unfolding outcome
     few =
         let e = none-early (early centroids volumes radius planes (lengths_of l)) (rows_refusal centroids radius planes (length l.near) (length l.coef) (length centroids)) (sym b.number) in
-        let r = roomy centroids volumes radius planes _ _ _ _ _ _ _ _ _ e in
+        let r = roomy centroids volumes radius planes (length l.starts) (record { cell = l.cell; order = l.order; first = l.first; sorted = l.sorted; stamp = l.stamp; weight = l.weight; found = l.found; bits = l.bits }) e in
         omega (arith, r.few)
 
   pub built-near-one : BuiltNearOne centroids radius planes volumes

@@ -3,17 +3,18 @@ use mathlib.Core.Path.{◌≡◌, refl, ap, ◌∙◌}
 use mathlib.Core.Bool.{Bool, true, false, ◌&&◌}
 use mathlib.Core.List.{List}
 use mathlib.Core.Logic.{⊎_elim}
-use Prim.Native.Nat.{ℕ, zero, suc, ◌+◌, ◌≤◌, ◌<◌}
+use Prim.Native.Nat.{ℕ, zero, suc, ◌+◌, ◌*◌, ◌≤◌, ◌<◌}
 use native.Mathlib.Omega.{arith}
 use native.Mathlib.Nat.{le_of_suc-le-suc, eq-or-lt_of_le}
 use native.Mathlib.Numerals.{add-one}
-use lib.ListN.{length, get_or}
+use lib.ListN.{length, get_or, replicate}
 use lib.Ieee.{Float}
 use lib.Dec.{ltb, leb}
 use borrow.Author.Tests.{ltb-true, ltb-false, leb-true, leb-false, lt-ltb, le-ltb, le-leb, lt-leb, not-true}
-use Rattle.lists.specs.Lists.{fold_over, any_to, choose}
-use Rattle.lists.proofs.Laws.{fold_over-more, any-not, both, choose-true}
-use Rattle.filter_table.specs.Table.{row_end, Within, Wf, well_of}
+use Rattle.lists.specs.Lists.{overwrite, fold_to, fold_over, zero64, any_to, choose}
+use Rattle.lists.proofs.Filled.{filled}
+use Rattle.lists.proofs.Laws.{fold_over-none, fold_over-more, any-not, both, choose-true, sum_over-none, tabulate_throughout}
+use Rattle.filter_table.specs.Table.{row_end, row_sum, applied, row_share, backed, Within, Wf, well_of}
 
 -- ---- lists
 
@@ -26,6 +27,11 @@ four-turns {A} f x a k h =
     ∙ ap (λ (t : A). f (k + 3) (f (k + 2) t)) (more 1 2 (omega arith))
     ∙ ap (f (k + 3)) (more 2 3 (omega arith))
     ∙ more 3 4 (omega arith)
+
+-- the same, i fours from a on
+pub four_more : {A : Type 0} (f : ℕ → A → A) (x : A) (a i : ℕ)
+    → f (a + 4 * i + 3) (f (a + 4 * i + 2) (f (a + 4 * i + 1) (f (a + 4 * i) (fold_over f x a (a + 4 * i))))) ≡ fold_over f x a (a + 4 * (i + 1))
+four_more f x a i = four-turns f x a (a + 4 * i) (omega arith) ∙ ap (fold_over f x a) (omega arith)
 
 -- p fails at each index below n
 pub any_fails : (p : ℕ → Bool) (n : ℕ) → ((k : ℕ) → k < n → p k ≡ false) → any_to p n ≡ false
@@ -50,12 +56,15 @@ module _ (near : List ℕ) (coef : List Float) (a b : ℕ) where
       go true false u p q r = e
       go false t u p q r = e
 
-  pub row_end-from : a ≤ row_end near coef a b
-  row_end-from = row_end_split (λ t. a ≤ t) (λ h n c. h) (omega arith)
+  pub row_end_from : a ≤ row_end near coef a b
+  row_end_from = row_end_split (λ t. a ≤ t) (λ h n c. h) (omega arith)
 
-  -- a place of the row is within both lists
-  pub row_end-room : (k : ℕ) → a ≤ k → k < row_end near coef a b → (k < length near) × (k < length coef)
-  row_end-room k h = row_end_split (λ t. k < t → (k < length near) × (k < length coef)) (λ o n c l. (omega arith, omega arith)) (λ l. absurd (omega arith))
+  -- a row that is not empty is within both lists
+  pub row_end_near : a < row_end near coef a b → row_end near coef a b ≤ length near
+  row_end_near = row_end_split (λ t. a < t → t ≤ length near) (λ o n c l. n) (λ l. absurd (omega arith))
+
+  pub row_end_coef : a < row_end near coef a b → row_end near coef a b ≤ length coef
+  row_end_coef = row_end_split (λ t. a < t → t ≤ length coef) (λ o n c l. c) (λ l. absurd (omega arith))
 
 -- ---- well formed
 module _ (starts near : List ℕ) (coef : List Float) (n m : ℕ) where
@@ -101,3 +110,20 @@ module _ (starts near : List ℕ) (coef : List Float) (n m : ℕ) where
           room-coef = omega arith;
           inside = λ k l. wf.inside k (omega arith);
         }
+
+-- ---- loops over a row and over the rows
+pub ruleset summing = (sum_over-none, row_end-within)
+
+pub ruleset stepping = (fold_over-none, fold_over-more)
+
+pub ruleset fours = (four-turns)
+
+pub all_rows : (starts near : List ℕ) (coef x l o : List Float) (n i : ℕ) → o ≡ overwrite (λ e. row_sum near coef x (get_or starts e 0) (get_or starts (e + 1) 0)) i l → i ≡ length l → n ≡ length l
+    → o ≡ applied starts near coef x n
+unfolding applied
+all_rows starts near coef x l o n i h a b = filled _ l o i h n a b
+
+pub all_shares : (starts near : List ℕ) (coef g l o : List Float) (n m e : ℕ) → l ≡ replicate m zero64
+    → o ≡ fold_to (λ e. row_share near coef (get_or g e zero64) (get_or starts e 0) (get_or starts (e + 1) 0)) l e → e ≡ n → o ≡ backed starts near coef g n m
+unfolding backed
+all_shares starts near coef g l o n m e z h a = h ∙ rw (z, a, tabulate_throughout zero64 m)

@@ -2,106 +2,56 @@
 // that is. The products for any table are `apply` and `back`. Lists may be lent longer than the rows use.
 #![tactic(auto)]
 
-ghost use Rattle.std.specs.Prelude.{◌≡◌, ◌+◌, ◌≤◌, ◌<◌, length, get_or, ltb, leb};
-ghost use Rattle.lists.specs.Lists.{any_to};
-ghost use Rattle.filter_table.specs.Table.{row_end, row_sum, applied, Within, Wf, well_of};
+mod formed;
+mod test;
 
-// ---- the test
+ghost use Rattle.std.specs.Prelude.{◌≡◌, ◌+◌, ◌^◌, ◌<◌, ◌≤◌, length, get_or};
+ghost use Rattle.filter_table.specs.Table.{row_end};
 
-fn falls(starts: &[u32], n: usize) -> bool
-    requires { n < length starts.now }
-    ensures { result ≡ any_to (λ e. ltb (get_or starts.now (e + 1) 0) (get_or starts.now e 0)) n }
-{
-    let mut t = false;
-    let mut e = 0usize;
-    while e < n {
-        t = t | (starts[e + 1usize] < starts[e]);
-        e += 1usize;
-    }
-    t
+pub use formed::WellFormed;
+use std::ops::Range;
+
+// Row e has the places from `starts[e]` up to `starts[e + 1]`; place k has the column `near[k]` and the number `coef[k]`.
+#[derive(Clone, Copy)]
+pub struct Table<'a> {
+    pub starts: &'a [u32],
+    pub near: &'a [u32],
+    pub coef: &'a [f64],
 }
 
-fn beyond(near: &[u32], end: usize, m: u32) -> bool
-    requires { end ≤ length near.now }
-    ensures { result ≡ any_to (λ k. leb m (get_or near.now k 0)) end }
-{
-    let mut t = false;
-    let mut k = 0usize;
-    while k < end {
-        t = t | (m <= near[k]);
-        k += 1usize;
+// A row of any table. Internal: for `filter_apply` and `filter_back`.
+impl<'a> Table<'a> {
+    // Where a row starts; 0 past the end.
+    pub fn start(self, e: usize) -> usize
+        ensures { result ≡ get_or self.entry.starts.now e 0 }
+    {
+        self.starts.get(e).map_or(0, |s| *s as usize)
     }
-    t
-}
 
-// Whether the table is well formed for n rows over m columns. It looks only at what the rows use, with no way out of its loops.
-pub fn well(starts: &[u32], near: &[u32], coef: &[f64], n: usize, m: usize) -> bool
-    ensures { result ≡ well_of starts.now near.now coef.now n m }
-{
-    if n < starts.len() {
-        let end = starts[n] as usize;
-        if (end <= near.len()) & (end <= coef.len()) {
-            // Columns are compared as 32 bits, twice as many at a time. From 2^32 on, m is above them all.
-            if m < 4294967296usize {
-                return !falls(starts, n) & !beyond(near, end, m as u32);
-            }
-            return !falls(starts, n);
+    // Where the row from `from` to `to` ends: it is empty where it is not within both lists.
+    #[tactic(auto, unfolding(crate::specs::Table::row_end, lists::specs::Lists::choose))]
+    pub fn row_end(self, from: usize, to: usize) -> usize
+        ensures { result ≡ row_end self.entry.near.now self.entry.coef.now from to }
+    {
+        if (from <= to) & (to <= self.near.len()) & (to <= self.coef.len()) {
+            to
+        } else {
+            from
         }
     }
-    false
-}
 
-// ---- without tests
-
-fn row(near: &[u32], coef: &[f64], x: &[f64], from: usize, to: usize) -> f64
-    requires { Within near.now coef.now from to (length x.now) }
-    ensures { result ≡ row_sum near.now coef.now x.now from to }
-{
-    let mut t = 0.0;
-    let mut k = from;
-    while k < to {
-        let j = near[k] as usize;
-        t = t + coef[k] * x[j];
-        k += 1usize;
-    }
-    t
-}
-
-// Internal: `apply` for a caller that has asked `well` once.
-pub fn apply_well(starts: &[u32], near: &[u32], coef: &[f64], x: &[f64], out: &mut [f64])
-    requires { Wf starts.now near.now coef.now (length out.old) (length x.now) }
-    ensures { out.new ≡ applied starts.now near.now coef.now x.now (length out.old) }
-{
-    let mut e = 0usize;
-    while e < out.len() {
-        let from = starts[e] as usize;
-        let to = starts[e + 1usize] as usize;
-        let s = row(near, coef, x, from, to);
-        out[e] = s;
-        e += 1usize;
-    }
-}
-
-// ---- a row of any table. Internal: for `filter_apply` and `filter_back`
-
-// Where a row starts; 0 past the end.
-pub fn start_at(starts: &[u32], e: usize) -> usize
-    ensures { result ≡ get_or starts.now e 0 }
-{
-    if e < starts.len() {
-        starts[e] as usize
-    } else {
-        0
-    }
-}
-
-// Where the row from `from` to `to` ends: it is empty where it is not within both lists.
-pub fn row_end(near: &[u32], coef: &[f64], from: usize, to: usize) -> usize
-    ensures { result ≡ row_end near.now coef.now from to }
-{
-    if (from <= to) & (to <= near.len()) & (to <= coef.len()) {
-        to
-    } else {
-        from
+    // The places of a row: none where it is not within both lists.
+    // Stays, here and in the products, that a row has a next one: a place of a list has, and a type of such numbers would say no more.
+    #[tactic(auto, using(crate::proofs::Laws::row_end_from, crate::proofs::Laws::row_end_near, crate::proofs::Laws::row_end_coef))]
+    pub fn row(self, e: usize) -> Range<usize>
+        requires { e + 1 < 2 ^ 64 }
+        ensures from { result.start ≡ get_or self.entry.starts.now e 0 }
+        ensures to { result.end ≡ row_end self.entry.near.now self.entry.coef.now result.start (get_or self.entry.starts.now (e + 1) 0) }
+        ensures order { result.start ≤ result.end }
+        ensures near { result.start < result.end → result.end ≤ length self.entry.near.now }
+        ensures coef { result.start < result.end → result.end ≤ length self.entry.coef.now }
+    {
+        let from = self.start(e);
+        from..self.row_end(from, self.start(e + 1))
     }
 }

@@ -1,16 +1,16 @@
 -- "Zeroed": "the working lists are zero throughout". Definitions only.
-use Rattle.std.specs.Prelude.{◌≡◌, List, [], ◌∷◌, ℕ, Float}
+use Rattle.std.specs.Prelude.{◌≡◌, [], ◌∷◌}
 use Rattle.lists.specs.Lists.{zero64}
 use Rattle.lent.specs.Lent.{zeros}
+use Rattle.filter.specs.Build.{Working}
 
 -- the working lists, and what stands in them then: to their ends, not the needed places alone
-pub record Wiped (cell : List (List ℕ)) (order first : List ℕ) (sorted : List (List Float)) (stamp : List ℕ) (weight : List Float) (found bits : List ℕ)
-    (cell' : List (List ℕ)) (order' first' : List ℕ) (sorted' : List (List Float)) (stamp' : List ℕ) (weight' : List Float) (found' bits' : List ℕ) : Type 0 where
-  pub cells : cell' ≡ zeros (0 ∷ 0 ∷ 0 ∷ []) cell
-  pub orders : order' ≡ zeros 0 order
-  pub firsts : first' ≡ zeros 0 first
-  pub sorteds : sorted' ≡ zeros (zero64 ∷ zero64 ∷ zero64 ∷ []) sorted
-  pub stamps : stamp' ≡ zeros 0 stamp
-  pub weights : weight' ≡ zeros zero64 weight
-  pub founds : found' ≡ zeros 0 found
-  pub maps : bits' ≡ zeros 0 bits
+pub record Wiped (w w' : Working) : Type 0 where
+  pub cells : w'.cell ≡ zeros (0 ∷ 0 ∷ 0 ∷ []) w.cell
+  pub orders : w'.order ≡ zeros 0 w.order
+  pub firsts : w'.first ≡ zeros 0 w.first
+  pub sorteds : w'.sorted ≡ zeros (zero64 ∷ zero64 ∷ zero64 ∷ []) w.sorted
+  pub stamps : w'.stamp ≡ zeros 0 w.stamp
+  pub weights : w'.weight ≡ zeros zero64 w.weight
+  pub founds : w'.found ≡ zeros 0 w.found
+  pub maps : w'.bits ≡ zeros 0 w.bits

@@ -4,36 +4,34 @@
 ghost use Rattle.std.specs.Prelude.{◌≡◌};
 ghost use Rattle.lists.specs.Lists.{zero64};
 ghost use Rattle.lent.specs.Lent.{zeros};
+ghost use Rattle.filter.specs.Held.{working, SameTable, SameWork};
 ghost use Rattle.filter_wipe.specs.Wiped.{Wiped};
 
+use filter::work::{TableMut, Work};
+
 // The working lists set to zero, to their ends.
-pub fn wipe_work(
-    cell: &mut [[u64; 3]],
-    order: &mut [u32],
-    first: &mut [u32],
-    sorted: &mut [[f64; 3]],
-    stamp: &mut [u32],
-    weight: &mut [f64],
-    found: &mut [u32],
-    bits: &mut [u64],
-)
-    ensures { Wiped cell.old order.old first.old sorted.old stamp.old weight.old found.old bits.old cell.new order.new first.new sorted.new stamp.new weight.new found.new bits.new }
+pub fn wipe_work(work: &mut Work)
+    ensures same { SameWork work.old work.new }
+    ensures wiped { Wiped (working work.old) (working work.new) }
 {
-    zero::cubes(cell);
-    zero::words(order);
-    zero::words(first);
-    zero::points(sorted);
-    zero::words(stamp);
-    zero::floats(weight);
-    zero::words(found);
-    zero::longs(bits);
+    work.cell.fill([0; 3]);
+    work.order.fill(0);
+    work.first.fill(0);
+    work.sorted.fill([0.0; 3]);
+    work.stamp.fill(0);
+    work.weight.fill(0.0);
+    work.found.fill(0);
+    work.bits.fill(0);
 }
 
 // The three filter lists set to zero, to their ends.
-pub fn wipe_table(starts: &mut [u32], near: &mut [u32], coef: &mut [f64])
-    ensures { (starts.new ≡ zeros 0 starts.old) × (near.new ≡ zeros 0 near.old) × (coef.new ≡ zeros zero64 coef.old) }
+pub fn wipe_table(table: &mut TableMut)
+    ensures same { SameTable table.old table.new }
+    ensures starts { table.new.starts.now ≡ zeros 0 table.old.starts.now }
+    ensures near { table.new.near.now ≡ zeros 0 table.old.near.now }
+    ensures coef { table.new.coef.now ≡ zeros zero64 table.old.coef.now }
 {
-    zero::words(starts);
-    zero::words(near);
-    zero::floats(coef);
+    table.starts.fill(0);
+    table.near.fill(0);
+    table.coef.fill(0.0);
 }

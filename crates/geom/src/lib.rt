@@ -53,6 +53,7 @@ impl Vec3 {
         }
     }
 
+    // Stays beside max: one function of both would take the operation as a closure, and be longer than either.
     #[tactic(auto, unfolding(crate::specs::Vectors::least))]
     pub fn min(self, o: Vec3) -> Vec3
         ensures { result ≡ Vectors.least self o }

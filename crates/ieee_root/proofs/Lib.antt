@@ -6,8 +6,4 @@ pub mod Nearest
 pub mod Every
 pub mod Monotone
 pub mod Examples
-mod Division
-mod Input
-mod Newton
-mod Patterns
-mod Rounded
+mod Library

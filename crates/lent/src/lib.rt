@@ -7,13 +7,6 @@ ghost use Rattle.lent.specs.Domain.{outside_domain, point_bad, points_bad, plane
 
 use geom::{Mirror, Vec3};
 
-// A lent point. It goes when nobody calls it.
-pub fn point(p: [f64; 3]) -> Vec3
-    ensures { result ≡ Points.point p }
-{
-    Vec3::from(p)
-}
-
 // Whether a number is no coordinate of the domain.
 fn beyond(v: f64) -> bool
     ensures { result ≡ outside_domain v }
@@ -27,15 +20,10 @@ pub fn point_bad(p: [f64; 3]) -> bool
     beyond(p[0]) | beyond(p[1]) | beyond(p[2])
 }
 
-#[tactic(auto, unfolding(lists::specs::Lists::any_to))]
 pub fn points_bad(points: &[[f64; 3]]) -> bool
     ensures { result ≡ points_bad points.now }
 {
-    let mut found = false;
-    for p in points {
-        found |= point_bad(*p);
-    }
-    found
+    points.iter().any(|p| point_bad(*p))
 }
 
 // Whether a plane is outside the domain, or its normal no longer than 1e-12.
@@ -43,11 +31,7 @@ pub fn points_bad(points: &[[f64; 3]]) -> bool
 pub fn plane_bad(p: [f64; 6]) -> bool
     ensures { result ≡ plane_bad p }
 {
-    let mut outside = false;
-    for v in p {
-        outside |= beyond(v);
-    }
-    outside | !(Mirror::from(p).normal.len() > 1e-12)
+    p.iter().any(|v| beyond(*v)) | !(Mirror::from(p).normal.len() > 1e-12)
 }
 
 fn volume_bad(v: f64) -> bool
@@ -56,15 +40,11 @@ fn volume_bad(v: f64) -> bool
     !((v > 0.0) & (v <= 1e20))
 }
 
-#[tactic(auto, unfolding(lists::specs::Lists::any_to))]
+// Stays beside points_bad and depths_bad: each is a line, and one function of the three would be `any` itself.
 pub fn volumes_bad(volumes: &[f64]) -> bool
     ensures { result ≡ volumes_bad volumes.now }
 {
-    let mut found = false;
-    for v in volumes {
-        found |= volume_bad(*v);
-    }
-    found
+    volumes.iter().any(|v| volume_bad(*v))
 }
 
 pub fn radius_bad(r: f64) -> bool
@@ -88,13 +68,8 @@ fn depth_bad(depth: f64) -> bool
     is_depth(depth) & radius_bad(depth)
 }
 
-#[tactic(auto, unfolding(lists::specs::Lists::any_to, crate::specs::Domain::depths_bad))]
 pub fn depths_bad(depths: &[f64]) -> bool
     ensures { result ≡ depths_bad depths.now }
 {
-    let mut found = false;
-    for depth in depths {
-        found |= depth_bad(*depth);
-    }
-    found
+    depths.iter().any(|depth| depth_bad(*depth))
 }

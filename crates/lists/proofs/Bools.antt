@@ -5,7 +5,7 @@ use mathlib.Core.Logic.{◌⊎◌, inl, inr}
 use Prim.Native.Nat.{ℕ, ◌≤◌, ◌<◌}
 use native.Mathlib.Omega.{arith}
 use lib.Dec.{leb, eqb}
-use borrow.Author.Tests.{leb-true, leb-false, eqb-true, eqb-false, ne_eqb}
+use borrow.Author.Tests.{leb-true, leb-false, eqb-true, eqb-false}
 
 -- no test comes out both ways
 pub never : {X : Type 0} {b : Bool} → b ≡ true → b ≡ false → X
@@ -40,9 +40,6 @@ and-right-false false b e = refl
 -- ---- numbers
 pub at-most-zero : (n : ℕ) → n ≤ 0 → n ≡ 0
 at-most-zero n h = omega arith
-
-pub positive-is-not-zero : (n : ℕ) → 0 < n → eqb n 0 ≡ false
-positive-is-not-zero n h = ne_eqb n 0 (λ (z : n ≡ 0). omega arith)
 
 pub eq-or_ne : (a b : ℕ) → (a ≡ b) ⊎ (a ≡ b → ⊥)
 eq-or_ne a b = go (eqb a b) refl

@@ -1,7 +1,7 @@
 -- The laws of `specs/Lists.antt`. Assumes nothing.
 use mathlib.Core.Path.{◌≡◌, refl, sym, ap, ◌∙◌}
 use mathlib.Core.List.{List, [], ◌∷◌, ◌++◌}
-use Prim.Native.Nat.{ℕ, zero, suc, ◌+◌, ◌-◌, ◌≤◌, ◌<◌, max, zero-le, suc-le-suc}
+use Prim.Native.Nat.{ℕ, zero, suc, ◌+◌, ◌-◌, ◌≤◌, ◌<◌, zero-le, suc-le-suc}
 use native.Mathlib.Omega.{arith}
 use mathlib.Core.Bool.{Bool, true, false, ◌||◌, ◌&&◌}
 use mathlib.Core.Logic.{⊎_elim}
@@ -113,9 +113,6 @@ unfolding tabulate
 tabulate_throughout z zero = refl
 tabulate_throughout {A} z (suc n) = ap (λ (l : List A). z ∷ l) (tabulate_throughout z n)
 
-pub overwrite_throughout : {A : Type 0} (z : A) (l : List A) → overwrite (λ _. z) (length l) l ≡ replicate (length l) z
-overwrite_throughout z l = overwrite-all (λ _. z) (length l) l refl ∙ tabulate_throughout z (length l)
-
 -- what is overwritten may be anything
 pub overwrite-set : {A : Type 0} (f : ℕ → A) (n : ℕ) (l : List A) (i : ℕ) (v : A) → i < n → overwrite f n (set l i v) ≡ overwrite f n l
 unfolding overwrite
@@ -170,12 +167,6 @@ fold_over_join f x a k b h j =
         let e : k + suc m ≡ (k + m) + 1 = omega arith in
         rw e (sym (fold_over-more f (fold_over f x a k) k (k + m) (omega arith)) ∙ ap (f (k + m)) (go m) ∙ fold_over-more f x a (k + m) (omega arith))
 
--- a loop that starts at a and runs while k < b stops at the larger of the two
-pub fold_over-end : {A : Type 0} (f : ℕ → A → A) (x : A) (a b k : ℕ) → k ≡ max a b → fold_over f x a k ≡ fold_over f x a b
-unfolding fold_over
-fold_over-end f x a b k e =
-    let h : k - a ≡ b - a = omega arith in rw h
-
 -- ---- sums
 pub sum_to-none : (f : ℕ → Float) → sum_to f 0 ≡ zero64
 unfolding sum_to
@@ -201,10 +192,6 @@ sum_over-none f a b h = fold_over-none (λ k t. add binary64 t (f k)) zero64 a b
 pub sum_over-more : (f : ℕ → Float) (a k : ℕ) → a ≤ k → add binary64 (sum_over f a k) (f k) ≡ sum_over f a (k + 1)
 unfolding sum_over
 sum_over-more f a k h = fold_over-more (λ k t. add binary64 t (f k)) zero64 a k h
-
-pub sum_over-end : (f : ℕ → Float) (a b k : ℕ) → k ≡ max a b → sum_over f a k ≡ sum_over f a b
-unfolding sum_over
-sum_over-end f a b k e = fold_over-end (λ k t. add binary64 t (f k)) zero64 a b k e
 
 -- ---- tests
 pub any_none : (p : ℕ → Bool) → any_to p 0 ≡ false

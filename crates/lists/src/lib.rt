@@ -1,30 +1,15 @@
 // Choices without a branch, and a sum, against `specs/Lists.antt`.
 #![tactic(auto)]
 
-ghost use Rattle.std.specs.Prelude.{◌≡◌, min, length, get_or};
+ghost use Rattle.std.specs.Prelude.{◌≡◌, length, get_or};
 ghost use Rattle.std.specs.Float.{nan};
 ghost use Rattle.lists.specs.Lists.{sum_to, choose};
-
-// The number where the test holds, and the rest otherwise: a link in a chain of refusals.
-#[tactic(auto, unfolding(crate::specs::Lists::choose))]
-pub fn first(test: bool, number: u32, rest: u32) -> u32
-    ensures { result ≡ choose test number rest }
-{
-    if test { number } else { rest }
-}
 
 #[tactic(auto, unfolding(crate::specs::Lists::choose))]
 pub fn either<T: Copy>(test: bool, a: T, b: T) -> T
     ensures { result ≡ choose test a b }
 {
     if test { a } else { b }
-}
-
-// The lesser of two counts.
-pub fn lesser(a: usize, b: usize) -> usize
-    ensures { result ≡ min a b }
-{
-    if a < b { a } else { b }
 }
 
 // The sum from the left, each addition rounded.

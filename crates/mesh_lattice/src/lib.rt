@@ -131,15 +131,6 @@ impl SmallGrid {
         8 * self.corner_count()
     }
 
-    #[tactic(auto, unfolding(crate::specs::Lattice::number_of))]
-    fn number(self, c: Corner) -> usize
-        requires { Bounds.Inside self.grid c }
-        ensures { result ≡ Lattice.number_of self.grid c }
-    {
-        let g = self.grid;
-        c.i + (g.nx + 1) * (c.j + (g.ny + 1) * c.k)
-    }
-
     #[tactic(auto, unfolding(crate::specs::Lattice::place_of))]
     fn place(self, c: Corner) -> Vec3
         requires { Bounds.Inside self.grid c }
@@ -154,12 +145,14 @@ impl SmallGrid {
         }
     }
 
+    #[tactic(auto, unfolding(crate::specs::Lattice::number_of))]
     fn vertex(self, c: Corner) -> Vertex
         requires { Bounds.Inside self.grid c }
         ensures { result ≡ Lattice.vertex_of self.grid c }
     {
+        let g = self.grid;
         Vertex {
-            number: self.number(c),
+            number: c.i + (g.nx + 1) * (c.j + (g.ny + 1) * c.k),
             place: self.place(c),
         }
     }

@@ -5,7 +5,7 @@ use mathlib.Core.List.{List}
 use Prim.Native.Nat.{ℕ}
 use lib.Ieee.{Float, binary64, add}
 use Rattle.oc_record.specs.Record.{dot}
-use Rattle.oc_seen.specs.declared.Sharpness.TheVariants.{At}
+use Rattle.std.specs.Prelude.{Some}
 use Rattle.oc_seen.specs.Seen.{seen_density}
 use Rattle.oc_kept.specs.declared.Rule.{Rule}
 use Rattle.oc_kept.specs.declared.Rule.TheVariants.{Straight, Sharpened}
@@ -16,7 +16,7 @@ module _ (starts near : List ℕ) (coef : List Float) (rule : Rule) (straight vo
   unfolding kept_of
   kept-straight solid d r e f g = rw e (g ∙ ap (add binary64 solid) f)
 
-  pub kept-sharpened : (beta : Float) (o : List Float) (r : Float) → rule ≡ Sharpened beta → o ≡ seen_density (At beta) starts near coef passive y → r ≡ dot volumes o
+  pub kept-sharpened : (beta : Float) (o : List Float) (r : Float) → rule ≡ Sharpened beta → o ≡ seen_density (Some beta) starts near coef passive y → r ≡ dot volumes o
       → r ≡ kept_of rule straight starts near coef volumes passive y
   unfolding kept_of
   kept-sharpened beta o r e f g = rw e (g ∙ ap (dot volumes) f)

@@ -1,2 +1,3 @@
--- `Kept` has the volume that a design keeps.
+-- `Kept` has the volume that a design keeps, `Lent` the same through a table that is lent as one.
 pub mod Kept
+pub mod Lent

@@ -10,6 +10,8 @@ pub struct Projection {
     pub beta: f64,
     pub below: f64,
     pub whole: f64,
+    pub ghost below_is: { below ≡ below_of beta },
+    pub ghost whole_is: { whole ≡ whole_of beta },
 }
 
 #[derive(Clone, Copy)]
@@ -18,26 +20,27 @@ pub struct Projected {
     pub slope: f64,
 }
 
-pub fn at_steepness(beta: f64) -> Projection
-    ensures { (result.beta ≡ beta) × (result.below ≡ below_of beta) × (result.whole ≡ whole_of beta) }
-{
-    let below = ieee_tanh::tanh(beta * topo::PROJECT_AT);
-    let whole = below + ieee_tanh::tanh(beta * (1.0 - topo::PROJECT_AT));
-    Projection { beta, below, whole }
-}
+impl Projection {
+    #[tactic(auto, unfolding(crate::specs::Project::below_of, crate::specs::Project::whole_of))]
+    pub fn at(beta: f64) -> Projection
+        ensures { result.beta ≡ beta }
+    {
+        let below = ieee_tanh::tanh(beta * topo::PROJECT_AT);
+        let whole = below + ieee_tanh::tanh(beta * (1.0 - topo::PROJECT_AT));
+        Projection { beta, below, whole }
+    }
 
-// Sharpening: a filtered density v pushed toward 0 below a half and toward 1 above it, the more the larger the steepness, with 0 and 1 left where
-// they are; and how fast it moves with v.
-pub fn project(at: Projection, v: f64) -> Projected
-    requires { (at.below ≡ below_of at.beta) × (at.whole ≡ whole_of at.beta) }
-    ensures { (result.density ≡ projected at.beta v) × (result.slope ≡ projected_slope at.beta v) }
-{
-    let beta = at.beta;
-    let below = at.below;
-    let whole = at.whole;
-    let t = ieee_tanh::tanh(beta * (v - topo::PROJECT_AT));
-    Projected {
-        density: (below + t) / whole,
-        slope: beta * (1.0 - t * t) / whole,
+    // Sharpening: a filtered density v pushed toward 0 below a half and toward 1 above it, the more the larger the steepness, with 0 and 1 left where
+    // they are; and how fast it moves with v.
+    #[tactic(auto, unfolding(crate::specs::Project::turned, crate::specs::Project::projected, crate::specs::Project::projected_slope))]
+    pub fn project(self, v: f64) -> Projected
+        ensures { (result.density ≡ projected self.beta v) × (result.slope ≡ projected_slope self.beta v) }
+    {
+        let Projection { beta, below, whole } = self;
+        let t = ieee_tanh::tanh(beta * (v - topo::PROJECT_AT));
+        Projected {
+            density: (below + t) / whole,
+            slope: beta * (1.0 - t * t) / whole,
+        }
     }
 }

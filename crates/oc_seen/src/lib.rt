@@ -2,62 +2,44 @@
 // its filtered density.
 #![tactic(auto)]
 
-ghost use Rattle.std.specs.Prelude.{◌≡◌, length};
-ghost use Rattle.oc_seen.specs.Seen.{densities, slopes, seen_density, seen_slope};
+ghost use Rattle.std.specs.Prelude.{◌≡◌, length, None, Some, Option, Float, option_map};
+ghost use Rattle.oc_seen.specs.Seen.{densities, slopes, sharpened, sharpened_slope};
+ghost use Rattle.oc_seen.specs.Lent.{density_through, slope_through};
 
-#[derive(Clone, Copy)]
-pub enum Sharpness {
-    Off,
-    At(f64),
-}
+use filter_table::Table;
+use oc_project::{Projected, Projection};
 
-// The filtered values in `density` without sharpening.
-fn see_plain(passive: &[bool], density: &mut [f64], slope: &mut [f64])
-    requires { (length density.old ≡ length passive.now) × (length slope.old ≡ length passive.now) }
-    ensures { (density.new ≡ densities Sharpness.Off passive.now density.old) × (slope.new ≡ slopes Sharpness.Off passive.now density.old) }
+// A clamped value sharpened; as it is, without.
+#[tactic(auto, unfolding(crate::specs::Seen::sharpened, crate::specs::Seen::sharpened_slope))]
+fn sharpen(at: Option<Projection>, v: f64) -> Projected
+    ensures { (result.density ≡ sharpened (option_map (λ p. p.beta) at) v) × (result.slope ≡ sharpened_slope (option_map (λ p. p.beta) at) v) }
 {
-    let mut i = 0usize;
-    while i < passive.len() {
-        let v = ieee::clamp(density[i]);
-        let held = passive[i];
-        density[i] = lists::either(held, 1.0, v);
-        slope[i] = lists::either(held, 0.0, 1.0);
-        i += 1usize;
+    match at {
+        None => Projected {
+            density: v,
+            slope: 1.0,
+        },
+        Some(at) => at.project(v),
     }
 }
 
-// The same, sharpened.
-fn see_sharpened(beta: f64, passive: &[bool], density: &mut [f64], slope: &mut [f64])
-    requires { (length density.old ≡ length passive.now) × (length slope.old ≡ length passive.now) }
-    ensures { (density.new ≡ densities (Sharpness.At beta) passive.now density.old) × (slope.new ≡ slopes (Sharpness.At beta) passive.now density.old) }
-{
-    let at = oc_project::at_steepness(beta);
-    let mut i = 0usize;
-    while i < passive.len() {
-        let p = oc_project::project(at, ieee::clamp(density[i]));
-        let held = passive[i];
-        density[i] = lists::either(held, 1.0, p.density);
-        slope[i] = lists::either(held, 0.0, p.slope);
-        i += 1usize;
-    }
-}
-
+#[tactic(auto, using(lists::proofs::Filled::stored, lists::proofs::Filled::unwritten), unfolding(lists::specs::Lists::overwrite, crate::specs::Seen::element_density, crate::specs::Seen::element_slope))]
 pub fn see(
-    starts: &[u32],
-    near: &[u32],
-    coef: &[f64],
+    table: Table,
     passive: &[bool],
     x: &[f64],
-    sharpness: Sharpness,
+    sharpness: Option<f64>,
     density: &mut [f64],
     slope: &mut [f64],
 )
     requires { (length density.old ≡ length passive.now) × (length slope.old ≡ length passive.now) }
-    ensures { (density.new ≡ seen_density sharpness starts.now near.now coef.now passive.now x.now) × (slope.new ≡ seen_slope sharpness starts.now near.now coef.now passive.now x.now) }
+    ensures { (density.new ≡ density_through sharpness table.entry passive.now x.now) × (slope.new ≡ slope_through sharpness table.entry passive.now x.now) }
 {
-    filter_apply::apply(starts, near, coef, x, density);
-    match sharpness {
-        Sharpness::Off => see_plain(passive, density, slope),
-        Sharpness::At(beta) => see_sharpened(beta, passive, density, slope),
+    filter_apply::apply(table, x, density);
+    let at = sharpness.map(Projection::at);
+    for (i, held) in passive.iter().enumerate() {
+        let p = sharpen(at, ieee::clamp(density[i]));
+        density[i] = lists::either(*held, 1.0, p.density);
+        slope[i] = lists::either(*held, 0.0, p.slope);
     }
 }

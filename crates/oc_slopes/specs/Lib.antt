@@ -1,2 +1,3 @@
--- `Slopes` has how work and volume go with the design.
+-- `Slopes` has how work and volume go with the design, `Lent` the same through a table that is lent as one.
 pub mod Slopes
+pub mod Lent

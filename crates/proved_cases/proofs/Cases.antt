@@ -13,8 +13,8 @@ use Rattle.filter.specs.Filter as Filter
 use Rattle.oc_start.specs.Start as Start
 use Rattle.run_plain.specs.Formulas as Formulas
 use Rattle.run_plain.specs.Opening as Opening
+use Rattle.run_plain.specs.Opening.{Kept}
 use Rattle.update_rates.specs.Rates.{half}
-use Rattle.run_plain.specs.declared.Entry.TheVariants.{Kept}
 use Rattle.geom.proofs.Cases.{image_in-x}
 use Rattle.faces.proofs.Cases.{above-a-corner, above_the_face}
 use Rattle.topo.proofs.Cases.{level_of-half, level_of-minus-three, level_of_seven_lem}

@@ -21,7 +21,6 @@ use Rattle.oc_slopes.specs.Slopes as Slopes
 use Rattle.oc_record.specs.Record as Record
 use Rattle.oc_kept.specs.Kept as Kept
 use Rattle.update_value.specs.Value as Value
-use Rattle.update_value.specs.Value as Value
 use Rattle.update_design.specs.Design as Design
 use Rattle.update_rates.specs.Rates as Rates
 use Rattle.run_plain.specs.Lent as Lent

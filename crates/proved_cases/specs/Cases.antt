@@ -14,8 +14,7 @@ use Rattle.update_rates.specs.Rates.{half}
 use Rattle.oc_project.specs.Project.{stages, projected}
 use Rattle.update_value.specs.Value.{gain_of, next_of}
 use Rattle.region_off_centre.specs.OffCentre.{off_centre_of}
-use Rattle.run_plain.specs.declared.Entry.TheVariants.{Kept}
-use Rattle.run_plain.specs.Opening.{Opening, starts_of, near_of, coef_of, entry_of}
+use Rattle.run_plain.specs.Opening.{Opening, Kept, starts_of, near_of, coef_of, entry_of}
 use Rattle.proved_cases.specs.Example.{WorkedExample, room}
 
 -- points at x = 0 and 1

@@ -49,6 +49,8 @@ pub enum Refusal {
 }
 
 impl From<Refusal> for u32 {
+    ghost from_gives = { λ r n. n ≡ number_of r };
+
     fn from(r: Refusal) -> u32
         ensures { result ≡ number_of r }
     {
@@ -83,6 +85,7 @@ impl From<Refusal> for u32 {
 }
 
 // The number of what a call returns: 0 where it is not refused.
+// Stays a number: it is what crosses to C.
 pub fn refused(outcome: Result<(), Refusal>) -> u32
     ensures { result ≡ refused outcome }
 {

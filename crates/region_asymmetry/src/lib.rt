@@ -42,23 +42,20 @@ fn check(nodes: &[[f64; 3]], tris: &[[u32; 6]], mirror: Mirror, short: bool) -> 
 }
 
 // The distance, with lists of just as many places as are needed.
-// Stays a row of lists: of a struct of them that is moved on whole, the caller's proof did not know what they hold at its end.
-fn apart(
-    nodes: &[[f64; 3]],
-    tris: &[[u32; 6]],
-    mirror: Mirror,
-    faces: &mut [[f64; 9]],
-    kx: &mut [u64],
-    ky: &mut [u64],
-    kz: &mut [u64],
-    order: &mut [u32],
-    scratch: &mut [u32],
-    boxes: &mut [[f64; 6]],
-    seen: &mut [bool],
-) -> f64
-    requires { Steps.Fits nodes.now tris.now faces.old kx.old ky.old kz.old order.old scratch.old boxes.old seen.old }
+fn apart(nodes: &[[f64; 3]], tris: &[[u32; 6]], mirror: Mirror, work: Work) -> f64
+    requires { Steps.Fits nodes.now tris.now (Held.lent work) }
     ensures { result ≡ asymmetry_of nodes.now tris.now mirror }
 {
+    let Work {
+        faces,
+        kx,
+        ky,
+        kz,
+        order,
+        scratch,
+        boxes,
+        seen,
+    } = work;
     region_farthest::fill::gather(nodes, tris, faces);
     region_farthest::fill::keys(faces, kx, ky, kz);
     region_farthest::fill::number(order);
@@ -70,42 +67,41 @@ fn apart(
         order,
         boxes,
     };
-    region_farthest::far::farthest(nodes, mirror, tree, seen)
+    // Stays by a name: of a call at the very end, the borrow checker did not see the lists come back.
+    let far = region_farthest::far::farthest(nodes, mirror, tree, seen);
+    far
 }
 
 // The same in lists that may be longer, of which the places past those needed are left as they were lent.
-fn apart_front(
-    nodes: &[[f64; 3]],
-    tris: &[[u32; 6]],
-    mirror: Mirror,
-    faces: &mut [[f64; 9]],
-    kx: &mut [u64],
-    ky: &mut [u64],
-    kz: &mut [u64],
-    order: &mut [u32],
-    scratch: &mut [u32],
-    boxes: &mut [[f64; 6]],
-    seen: &mut [bool],
-) -> f64
-    requires { Steps.Roomy (length tris.now) (length nodes.now) (Spec.lent faces.old kx.old ky.old kz.old order.old scratch.old boxes.old seen.old) }
+fn apart_front(nodes: &[[f64; 3]], tris: &[[u32; 6]], mirror: Mirror, work: Work) -> f64
+    requires { Steps.Roomy (length tris.now) (length nodes.now) (Held.lent work) }
     ensures apart { result ≡ asymmetry_of nodes.now tris.now mirror }
-    ensures past { Steps.Past (length tris.now) (length nodes.now) (Spec.lent faces.old kx.old ky.old kz.old order.old scratch.old boxes.old seen.old) (Spec.lent faces.new kx.new ky.new kz.new order.new scratch.new boxes.new seen.new) }
+    ensures past { Steps.Past (length tris.now) (length nodes.now) (Held.lent work.entry) (Held.left work.exit) }
 {
     let n = tris.len();
-    let m = nodes.len();
-    apart(
-        nodes,
-        tris,
-        mirror,
-        &mut faces[..n],
-        &mut kx[..n],
-        &mut ky[..n],
-        &mut kz[..n],
-        &mut order[..n],
-        &mut scratch[..n],
-        &mut boxes[..n],
-        &mut seen[..m],
-    )
+    let Work {
+        faces,
+        kx,
+        ky,
+        kz,
+        order,
+        scratch,
+        boxes,
+        seen,
+    } = work;
+    let needed = Work {
+        faces: &mut faces[..n],
+        kx: &mut kx[..n],
+        ky: &mut ky[..n],
+        kz: &mut kz[..n],
+        order: &mut order[..n],
+        scratch: &mut scratch[..n],
+        boxes: &mut boxes[..n],
+        seen: &mut seen[..nodes.len()],
+    };
+    // Stays by a name: of a call at the very end, the borrow checker did not see the lists come back.
+    let far = apart(nodes, tris, mirror, needed);
+    far
 }
 
 // The distance, or the refusal.
@@ -140,7 +136,16 @@ pub fn asymmetry(
     if n == 0 {
         return Ok(0.0);
     }
-    Ok(apart_front(
-        nodes, tris, mirror, faces, kx, ky, kz, order, scratch, boxes, seen,
-    ))
+    // Stays a new struct: of the one that came, passed on whole, the proof did not know what its lists hold at the end.
+    let work = Work {
+        faces,
+        kx,
+        ky,
+        kz,
+        order,
+        scratch,
+        boxes,
+        seen,
+    };
+    Ok(apart_front(nodes, tris, mirror, work))
 }

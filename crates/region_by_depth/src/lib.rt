@@ -2,6 +2,6 @@
 // the cells of its box and those next to them are walked. Internal: lists are as long as needed.
 #![tactic(auto)]
 
-mod middles;
+pub mod middles;
 pub mod reach;
-mod walk;
+pub mod walk;

@@ -1,22 +1,24 @@
 // What the triangles of a set reach.
-ghost use Rattle.std.specs.Prelude.{◌≡◌, ◌+◌, ◌<◌, length, get_or};
+ghost use Rattle.std.specs.Prelude.{◌≡◌, length, get_or};
 ghost use Rattle.std.specs.Float.{nan};
 ghost use Rattle.region_by_nodes.specs.Nodes.{in_set};
 ghost use Rattle.region_cells.specs.Depth as Depth;
-ghost use Rattle.region_cells.specs.Steps.{Ready, reached, reached_by};
+ghost use Rattle.region_cells.specs.Steps.{reached, reached_by};
+ghost use Rattle.region_by_depth.specs.Held.{Long};
 
-use crate::middles::Middles;
+use crate::middles::{Filing, Middles};
+use crate::walk::Search;
 use cells::Block;
 use faces::Triangle;
-use region_by_nodes::boundary::Boundary;
+use region_by_nodes::boundary::KeptSet;
 
-// Marks what a triangle reaches, in cells of a size.
-fn reach(t: Triangle, depth: f64, size: f64, middles: Middles, marks: &mut [bool])
-    requires { Ready size middles.centroids.now middles.cells.now middles.order.now middles.first.now middles.buckets × (length marks.old ≡ length middles.centroids.now) }
-    ensures { marks.new ≡ reached size depth t middles.entry.centroids.now marks.old }
+// Marks what a triangle reaches.
+fn reach(t: Triangle, depth: f64, middles: Middles, marks: &mut [bool])
+    requires { length marks.old ≡ length middles.centroids.now }
+    ensures { marks.new ≡ reached middles.entry.size depth t middles.entry.centroids.now marks.old }
 {
-    let lo = region_cells::cell_of(region_cells::low(t), size);
-    let hi = region_cells::cell_of(region_cells::high(t), size);
+    let lo = region_cells::cell_of(region_cells::low(t), middles.size);
+    let hi = region_cells::cell_of(region_cells::high(t), middles.size);
     let block = Block::about(lo, hi);
     if block.x1 < block.x0 {
         return;
@@ -24,63 +26,52 @@ fn reach(t: Triangle, depth: f64, size: f64, middles: Middles, marks: &mut [bool
     if block.y1 < block.y0 {
         return;
     }
-    crate::walk::walk(t, depth * depth, block, middles, marks);
+    let limit = depth * depth;
+    cells_walk::walk(
+        &mut Search {
+            t,
+            limit,
+            middles,
+            marks,
+        },
+        block,
+    );
 }
 
-// Marks what the triangles of set s reach.
+// Marks what the triangles of a set reach.
 #[tactic(auto, unfolding(region_by_nodes::specs::Nodes::in_set, region_cells::specs::Steps::reached_by, lists::specs::Lists::fold_to, lists::specs::Lists::choose))]
-fn reach_all(
-    nodes: &[[f64; 3]],
-    b: Boundary,
-    s: usize,
-    depth: f64,
-    size: f64,
-    middles: Middles,
-    marks: &mut [bool],
-)
-    requires ready { Ready size middles.centroids.now middles.cells.now middles.order.now middles.first.now middles.buckets × (length marks.old ≡ length middles.centroids.now) }
-    requires set { s < length b.depths.now }
-    ensures { marks.new ≡ reached_by nodes.now b.entry.tris.now (in_set b.entry.surfaces.now b.entry.starts.now b.entry.kept.now s) size depth middles.entry.centroids.now (length b.entry.tris.now) marks.old }
+fn reach_all(nodes: &[[f64; 3]], set: KeptSet, depth: f64, middles: Middles, marks: &mut [bool])
+    requires { length marks.old ≡ length middles.centroids.now }
+    ensures { let b = set.entry.boundary in marks.new ≡ reached_by nodes.now b.tris.now (in_set b.surfaces.now b.starts.now b.kept.now set.entry.number) middles.entry.size depth middles.entry.centroids.now (length b.tris.now) marks.old }
 {
+    let b = set.boundary;
     for (t, tri) in b.tris.iter().enumerate() {
-        if region_by_nodes::in_set(b, s, b.surfaces[t]) {
-            reach(
-                region_cells::corners(nodes, *tri),
-                depth,
-                size,
-                middles,
-                marks,
-            );
+        if region_by_nodes::in_set(b.starts, b.kept, set.number, b.surfaces[t]) {
+            reach(region_cells::corners(nodes, *tri), depth, middles, marks);
         }
     }
 }
 
-// Marks what set s reaches at its depth. The four lists before the marks are to work in.
+// Marks what a set reaches at its depth.
 pub fn by_depth(
     nodes: &[[f64; 3]],
-    b: Boundary,
-    s: usize,
+    set: KeptSet,
     centroids: &[[f64; 3]],
-    cells: &mut [[u64; 3]],
-    order: &mut [u32],
-    place: &mut [u32],
-    first: &mut [u32],
+    filing: &mut Filing,
     marks: &mut [bool],
 )
-    requires centroids_nonzero { (0 < length centroids.now) × (length centroids.now < 65536) × (length cells.old ≡ length centroids.now) × (length order.old ≡ length centroids.now) × (length place.old ≡ length centroids.now) × (length first.old ≡ length centroids.now + 1) × (length marks.old ≡ length centroids.now) }
-    requires set { s < length b.depths.now }
-    ensures { let depth = get_or b.entry.depths.now s nan in marks.new ≡ reached_by nodes.now b.entry.tris.now (in_set b.entry.surfaces.now b.entry.starts.now b.entry.kept.now s) (Depth.cell_size nodes.now b.entry.tris.now (in_set b.entry.surfaces.now b.entry.starts.now b.entry.kept.now s) depth) depth centroids.now (length b.entry.tris.now) marks.old }
+    requires { Long (length centroids.now) filing.old × (length marks.old ≡ length centroids.now) }
+    ensures long { Long (length centroids.now) filing.new }
+    ensures marked { let b = set.entry.boundary in let of = in_set b.surfaces.now b.starts.now b.kept.now set.entry.number in let depth = get_or b.depths.now set.entry.number nan in marks.new ≡ reached_by nodes.now b.tris.now of (Depth.cell_size nodes.now b.tris.now of depth) depth centroids.now (length b.tris.now) marks.old }
 {
-    let depth = b.depths[s];
-    let size = region_cells::cell_size(nodes, b, s, depth);
+    let depth = set.boundary.depths[set.number];
+    let size = region_cells::cell_size(nodes, set, depth);
+    let cells = &mut *filing.cells;
+    let order = &mut *filing.order;
+    let place = &mut *filing.place;
+    let first = &mut *filing.first;
     region_cells::cells_of(centroids, size, cells);
     let buckets = cells_file::file(cells, order, place, first);
-    let middles = Middles {
-        centroids,
-        cells,
-        order,
-        first,
-        buckets,
-    };
-    reach_all(nodes, b, s, depth, size, middles, marks);
+    let middles = filing.middles(centroids, size, buckets);
+    reach_all(nodes, set, depth, middles, marks);
 }

@@ -12,3 +12,11 @@ pub struct Boundary<'a> {
     ghost surfaced: { length tris.now ≤ length surfaces.now },
     ghost begun: { length depths.now < length starts.now },
 }
+
+// One of its sets.
+#[derive(Clone, Copy)]
+pub struct KeptSet<'a> {
+    pub boundary: Boundary<'a>,
+    pub number: usize,
+    ghost there: { number < length boundary.depths.now },
+}

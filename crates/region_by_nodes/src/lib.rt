@@ -1,23 +1,23 @@
 // Marks by nodes (region.rs, `passive`): the elements with a node that is held, loaded, or of a triangle of a kept set. Internal: lists are as long as needed.
 #![tactic(auto)]
 
-ghost use Rattle.std.specs.Prelude.{◌≡◌, true, false, [], ◌<◌, length, get_or, set};
+ghost use Rattle.std.specs.Prelude.{◌≡◌, true, false, [], ◌+◌, ◌<◌, length, get_or, set};
 ghost use Rattle.lists.specs.Lists.{tabulate};
 ghost use Rattle.region_by_nodes.specs.Nodes.{of_set, by_nodes};
 ghost use Rattle.region_by_nodes.specs.Steps.{flagged, flagged_set, flagged_sets, any_flagged};
 
 pub mod boundary;
 
-use crate::boundary::Boundary;
+use crate::boundary::{Boundary, KeptSet};
 
-// Whether a surface is in set s.
-pub fn in_set(b: Boundary, s: usize, surface: u32) -> bool
-    requires { s < length b.depths.now }
-    ensures { result ≡ of_set b.entry.starts.now b.entry.kept.now s surface }
+// Whether a surface is in a set.
+pub fn in_set(starts: &[u32], kept: &[u32], s: usize, surface: u32) -> bool
+    requires { s + 1 < length starts.now }
+    ensures { result ≡ of_set starts.now kept.now s surface }
 {
-    let end = (b.starts[s + 1] as usize).min(b.kept.len());
-    let from = (b.starts[s] as usize).min(end);
-    b.kept[from..end].contains(&surface)
+    let end = (starts[s + 1] as usize).min(kept.len());
+    let from = (starts[s] as usize).min(end);
+    kept[from..end].contains(&surface)
 }
 
 // Flags node n, where there is one.
@@ -40,14 +40,14 @@ pub fn flag_all(numbers: &[u32], keep: &mut [bool])
     }
 }
 
-// Flags the nodes of set s.
+// Flags the nodes of a set.
 #[tactic(auto, unfolding(crate::specs::Nodes::in_set, crate::specs::Steps::flagged_set, lists::specs::Lists::fold_to, lists::specs::Lists::choose))]
-fn flag_set(b: Boundary, s: usize, keep: &mut [bool])
-    requires { s < length b.depths.now }
-    ensures { keep.new ≡ flagged_set b.entry.tris.now b.entry.surfaces.now b.entry.starts.now b.entry.kept.now s keep.old }
+fn flag_set(set: KeptSet, keep: &mut [bool])
+    ensures { let b = set.entry.boundary in keep.new ≡ flagged_set b.tris.now b.surfaces.now b.starts.now b.kept.now set.entry.number keep.old }
 {
+    let b = set.boundary;
     for (t, tri) in b.tris.iter().enumerate() {
-        if in_set(b, s, b.surfaces[t]) {
+        if in_set(b.starts, b.kept, set.number, b.surfaces[t]) {
             flag_all(tri, keep);
         }
     }
@@ -59,7 +59,11 @@ fn flag_sets(b: Boundary, keep: &mut [bool])
     ensures { keep.new ≡ flagged_sets b.entry.tris.now b.entry.surfaces.now b.entry.starts.now b.entry.kept.now (length b.entry.depths.now) keep.old }
 {
     for s in 0..b.depths.len() {
-        flag_set(b, s, keep);
+        let set = KeptSet {
+            boundary: b,
+            number: s,
+        };
+        flag_set(set, keep);
     }
 }
 

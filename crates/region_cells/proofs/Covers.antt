@@ -10,7 +10,7 @@ use lib.Dec.{leb, ltb}
 use lib.Ieee.{Float, binary64, mul}
 use borrow.Author.Tests.{le-leb, lt-leb, lt-ltb, le-ltb}
 use Rattle.ieee_whole.proofs.Floor.{floor-fits}
-use Rattle.lists.proofs.Laws.{length-tabulate, get_or-tabulate}
+use Rattle.lists.proofs.Laws.{get_or-tabulate}
 use Rattle.geom.specs.Points.{point}
 use Rattle.cells.specs.Cells.{axis, within, box_cell, in_box, changed}
 use Rattle.cells.specs.Cells.{about}
@@ -63,9 +63,6 @@ module _ (t : Triangle) (size depth : Float) (centroids : List (List Float)) (ce
   cell_of_lem : (i : ℕ) → i < length centroids → get_or cells i [] ≡ cell_about size (point (get_or centroids i []))
   cell_of_lem i lt = ap (λ (l : List (List ℕ)). get_or l i []) r.cells_are ∙ get_or-tabulate (λ j. cell_about size (point (get_or centroids j []))) (length centroids) i [] lt
 
-  pub cells-many : length cells ≡ length centroids
-  cells-many = ap length r.cells_are ∙ length-tabulate (λ j. cell_about size (point (get_or centroids j []))) (length centroids)
-
   module _ (x0 x1 y0 y1 z0 z1 : ℕ) (ex0 : x0 ≡ cell_number (low_of t).x size - 1) (ex1 : x1 ≡ min (cell_number (high_of t).x size + 1) (2 ^ 64 - 1))
       (ey0 : y0 ≡ cell_number (low_of t).y size - 1) (ey1 : y1 ≡ min (cell_number (high_of t).y size + 1) (2 ^ 64 - 1))
       (ez0 : z0 ≡ cell_number (low_of t).z size - 1) (ez1 : z1 ≡ min (cell_number (high_of t).z size + 1) (2 ^ 64 - 1)) where
@@ -73,7 +70,7 @@ module _ (t : Triangle) (size depth : Float) (centroids : List (List Float)) (ce
     unfolding box_near reaches near_at in_box box_cell cells_near cell_about
     box-reaches i lt =
         let p = point (get_or centroids i []) in
-        rw (lt-ltb i (length cells) (omega (arith, cells-many)), cell_of_lem i lt, ex0, ex1, ey0, ey1, ez0, ez1, axis-within size (low_of t).x (high_of t).x p.x, axis-within size (low_of t).y (high_of t).y p.y, axis-within size (low_of t).z (high_of t).z p.z)
+        rw (lt-ltb i (length cells) (omega (arith, r.many)), cell_of_lem i lt, ex0, ex1, ey0, ey1, ez0, ez1, axis-within size (low_of t).x (high_of t).x p.x, axis-within size (low_of t).y (high_of t).y p.y, axis-within size (low_of t).z (high_of t).z p.z)
 
     -- what the walk leaves
     pub reach-done : (marks marks' : List Bool) → length marks ≡ length centroids → marks' ≡ changed (box_near t square centroids cells x0 (x1 + 1) y0 (y1 + 1) z0 (z1 + 1)) (λ _ _. true) marks → marks' ≡ reached size depth t centroids marks

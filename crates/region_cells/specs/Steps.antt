@@ -1,5 +1,5 @@
 -- How the code goes about the elements near a triangle. No caller must believe this: `Depth` says what comes of it. Definitions only.
-use Rattle.std.specs.Prelude.{ℕ, ◌+◌, ◌≡◌, Bool, true, ◌&&◌, List, [], ◌∷◌, length, get_or, Float}
+use Rattle.std.specs.Prelude.{ℕ, ◌+◌, ◌≤◌, ◌<◌, ◌≡◌, Bool, true, ◌&&◌, List, [], ◌∷◌, length, get_or, Float}
 use Rattle.lists.specs.Lists.{tabulate, fold_to, choose}
 use Rattle.geom.specs.declared.Vec3.{Vec3}
 use Rattle.geom.specs.Points.{point}
@@ -15,7 +15,12 @@ cell_about size p = cell_number p.x size ∷ cell_number p.y size ∷ cell_numbe
 -- the middles' cells, filed in m buckets
 pub record Ready (size : Float) (centroids : List (List Float)) (cells : List (List ℕ)) (order first : List ℕ) (m : ℕ) : Type 0 where
   pub cells_are : cells ≡ tabulate (λ i. cell_about size (point (get_or centroids i []))) (length centroids)
-  pub filed : Filed cells order first m
+  pub many : length cells ≡ length centroids
+  pub filed : ∥ Filed cells order first m ∥₁
+  pub some : 0 < m
+  pub firsts : m < length first
+  pub orders : length cells ≤ length order
+  pub elements : (k : ℕ) → k < length cells → get_or order k 0 < length cells
 
 -- middle i is at most at the limit
 unfoldable pub near_at : Triangle → Float → List (List Float) → ℕ → Bool

@@ -1,7 +1,7 @@
 // Marks by depth (region.rs, `passive`): triangles and the cells of middles, a set's longest side, and whether a triangle is near. Internal: for `region_by_depth`.
 #![tactic(auto)]
 
-ghost use Rattle.std.specs.Prelude.{◌≡◌, [], ◌<◌, length, get_or};
+ghost use Rattle.std.specs.Prelude.{◌≡◌, [], length, get_or};
 ghost use Rattle.lists.specs.Lists.{tabulate};
 ghost use Rattle.geom.specs.Points.{point};
 ghost use Rattle.region_by_nodes.specs.Nodes.{in_set};
@@ -10,7 +10,7 @@ ghost use Rattle.region_cells.specs.Steps.{cell_about};
 
 use faces::Triangle;
 use geom::Vec3;
-use region_by_nodes::boundary::Boundary;
+use region_by_nodes::boundary::KeptSet;
 
 #[tactic(auto, unfolding(crate::specs::Depth::corners_of))]
 pub fn corners(nodes: &[[f64; 3]], tri: [u32; 6]) -> Triangle
@@ -34,28 +34,27 @@ fn longer(t: Triangle, m: f64) -> f64
     ieee::max(ieee::max(ieee::max(m, a.dist(b)), b.dist(c)), c.dist(a))
 }
 
-// The longest side of set s.
+// The longest side of a set.
 #[tactic(auto, unfolding(region_by_nodes::specs::Nodes::in_set, crate::specs::Depth::longest_side, lists::specs::Lists::fold_to, lists::specs::Lists::choose))]
-fn longest(nodes: &[[f64; 3]], b: Boundary, s: usize) -> f64
-    requires { s < length b.depths.now }
-    ensures { result ≡ Depth.longest_side nodes.now b.entry.tris.now (in_set b.entry.surfaces.now b.entry.starts.now b.entry.kept.now s) (length b.entry.tris.now) }
+fn longest(nodes: &[[f64; 3]], set: KeptSet) -> f64
+    ensures { let b = set.entry.boundary in result ≡ Depth.longest_side nodes.now b.tris.now (in_set b.surfaces.now b.starts.now b.kept.now set.entry.number) (length b.tris.now) }
 {
     let mut m = 0.0;
+    let b = set.boundary;
     for (t, tri) in b.tris.iter().enumerate() {
-        if region_by_nodes::in_set(b, s, b.surfaces[t]) {
+        if region_by_nodes::in_set(b.starts, b.kept, set.number, b.surfaces[t]) {
             m = longer(corners(nodes, *tri), m);
         }
     }
     m
 }
 
-// The size of set s' cells, at a depth.
+// The size of a set's cells, at a depth.
 #[tactic(auto, unfolding(crate::specs::Depth::cell_size))]
-pub fn cell_size(nodes: &[[f64; 3]], b: Boundary, s: usize, depth: f64) -> f64
-    requires { s < length b.depths.now }
-    ensures { result ≡ Depth.cell_size nodes.now b.entry.tris.now (in_set b.entry.surfaces.now b.entry.starts.now b.entry.kept.now s) depth }
+pub fn cell_size(nodes: &[[f64; 3]], set: KeptSet, depth: f64) -> f64
+    ensures { let b = set.entry.boundary in result ≡ Depth.cell_size nodes.now b.tris.now (in_set b.surfaces.now b.starts.now b.kept.now set.entry.number) depth }
 {
-    ieee::max(depth, longest(nodes, b, s))
+    ieee::max(depth, longest(nodes, set))
 }
 
 #[tactic(auto, unfolding(crate::specs::Depth::cell_number))]

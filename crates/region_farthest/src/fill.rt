@@ -1,5 +1,5 @@
 // What the tree is built from: the triangles' corners, the keys of their middles, their numbers; and which nodes are corners.
-ghost use Rattle.std.specs.Prelude.{◌≡◌, true, [], ◌≤◌, length, get_or, set};
+ghost use Rattle.std.specs.Prelude.{◌≡◌, [], ◌≤◌, length, get_or};
 ghost use Rattle.lists.specs.Lists.{tabulate};
 ghost use Rattle.geom.specs.Points.{point};
 ghost use Rattle.faces.specs.Corners.{corners_of};
@@ -76,30 +76,12 @@ pub fn number(order: &mut [u32])
     }
 }
 
-// Marks node n; one that is not there has no mark.
-fn see(seen: &mut [bool], n: u32)
-    ensures { seen.new ≡ set seen.old n true }
-{
-    let i = n as usize;
-    if i < seen.len() {
-        seen[i] = true;
-    }
-}
-
-fn see_corners(seen: &mut [bool], t: [u32; 6])
-    ensures { seen.new ≡ set (set (set seen.old (get_or t 0 0) true) (get_or t 1 0) true) (get_or t 2 0) true }
-{
-    see(seen, t[0]);
-    see(seen, t[1]);
-    see(seen, t[2]);
-}
-
 // Marks each node that is a corner, and no other.
 pub fn mark(tris: &[[u32; 6]], seen: &mut [bool])
     ensures { seen.new ≡ tabulate (Spec.is_corner tris.now) (length seen.old) }
 {
     seen.fill(false);
     for t in tris {
-        see_corners(seen, *t);
+        region_by_nodes::flag_all(&[t[0], t[1], t[2]], seen);
     }
 }

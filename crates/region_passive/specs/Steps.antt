@@ -20,17 +20,7 @@ deepened q centroids s w =
 unfoldable pub deepened_to : Problem → List (List Float) → ℕ → List Bool → List Bool
 deepened_to q centroids n w = fold_to (deepened q centroids) w n
 
--- lists for the sets' depths that are as long as needed, for n elements
-pub record Sized (n marks cells order place first : ℕ) : Type 0 where
-  pub some : 0 < n
-  pub few : n < 65536
-  pub marked : marks ≡ n
-  pub celled : cells ≡ n
-  pub orders : order ≡ n
-  pub places : place ≡ n
-  pub firsts : first ≡ n + 1
-
--- lists that are as long as needed, all of them
+-- lists that are as long as needed
 pub record Fitting (q : Problem) (l : Lent) : Type 0 where
   pub few : length q.tets < 65536
   pub surfaced : length q.tris ≤ length q.surfaces

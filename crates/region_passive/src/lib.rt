@@ -16,16 +16,6 @@ use region_passive_checks::{Part, Room, Work};
 pub fn passive(part: Part, work: Work) -> Result<(), Refusal>
     ensures { Marked (problem part.entry) (lent work.entry) (left work.exit) (refused result) }
 {
-    let room = Room {
-        marks: work.marks.len(),
-        keep: work.keep.len(),
-        centroids: work.centroids.len(),
-        cells: work.cells.len(),
-        order: work.order.len(),
-        place: work.place.len(),
-        first: work.first.len(),
-    };
-    region_passive_checks::check(part, room)?;
     let Work {
         marks,
         keep,
@@ -35,6 +25,26 @@ pub fn passive(part: Part, work: Work) -> Result<(), Refusal>
         place,
         first,
     } = work;
-    crate::stages::mark_front(part, marks, keep, centroids, cells, order, place, first);
+    let room = Room {
+        marks: marks.len(),
+        keep: keep.len(),
+        centroids: centroids.len(),
+        cells: cells.len(),
+        order: order.len(),
+        place: place.len(),
+        first: first.len(),
+    };
+    region_passive_checks::check(part, room)?;
+    // Stays a new struct: of the one that came, passed on whole, the proof did not know what its lists hold at the end.
+    let work = Work {
+        marks,
+        keep,
+        centroids,
+        cells,
+        order,
+        place,
+        first,
+    };
+    crate::stages::mark_front(part, work);
     Ok(())
 }

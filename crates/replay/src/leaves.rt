@@ -1,49 +1,26 @@
 // One case of each leaf: its arguments are read, then what the Rust gave.
-use geom::{Mirror, Vec3};
-use replay_sample::read::point;
+use geom::Mirror;
+use oc_project::Projection;
+use replay_sample::read::{Recorded, point};
 use replay_sample::words::{number, same, word};
 use std::io::Read;
 
-pub fn sqrt(sample: &mut impl Read) -> bool {
+// A function of a number.
+// Stays in each contract that is given a function, here and beside: that it may be called is a fact of the function alone, and nothing holds it plainer.
+pub fn of_one<T: Recorded, R: Read, F: Fn(f64) -> T>(sample: &mut R, f: F) -> bool
+    requires { F.IsAlwaysCallable f }
+{
     let x = number(sample);
-    same(ieee_root::sqrt(x), number(sample))
+    f(x).is_next(sample)
 }
 
-pub fn tanh(sample: &mut impl Read) -> bool {
-    let x = number(sample);
-    same(ieee_tanh::tanh(x), number(sample))
-}
-
-pub fn max(sample: &mut impl Read) -> bool {
+// A function of two numbers.
+pub fn of_two<R: Read, F: Fn(f64, f64) -> f64>(sample: &mut R, f: F) -> bool
+    requires { F.IsAlwaysCallable f }
+{
     let x = number(sample);
     let y = number(sample);
-    same(ieee::max(x, y), number(sample))
-}
-
-pub fn min(sample: &mut impl Read) -> bool {
-    let x = number(sample);
-    let y = number(sample);
-    same(ieee::min(x, y), number(sample))
-}
-
-pub fn clamp(sample: &mut impl Read) -> bool {
-    let x = number(sample);
-    same(ieee::clamp(x), number(sample))
-}
-
-pub fn floor_at(sample: &mut impl Read) -> bool {
-    let x = number(sample);
-    ieee_whole::floor_at(x) == word(sample)
-}
-
-pub fn round_half_away(sample: &mut impl Read) -> bool {
-    let x = number(sample);
-    ieee_whole::round_half_away(x) == word(sample)
-}
-
-pub fn level_of(sample: &mut impl Read) -> bool {
-    let x = number(sample);
-    topo::level_of(x) as u64 == word(sample)
+    f(x, y).is_next(sample)
 }
 
 pub fn modulus(sample: &mut impl Read) -> bool {
@@ -57,8 +34,7 @@ pub fn image(sample: &mut impl Read) -> bool {
     let normal = point(sample);
     let p = point(sample);
     let q = Mirror { point: at, normal }.image(p);
-    let r = point(sample);
-    same(q.x, r.x) & same(q.y, r.y) & same(q.z, r.z)
+    <[f64; 3]>::from(q).is_next(sample)
 }
 
 pub fn dist2_to_triangle(sample: &mut impl Read) -> bool {
@@ -72,7 +48,7 @@ pub fn dist2_to_triangle(sample: &mut impl Read) -> bool {
 pub fn project(sample: &mut impl Read) -> bool {
     let v = number(sample);
     let beta = number(sample);
-    let r = oc_project::project(oc_project::at_steepness(beta), v);
+    let r = Projection::at(beta).project(v);
     let density = number(sample);
     let slope = number(sample);
     same(r.density, density) & same(r.slope, slope)
@@ -82,5 +58,5 @@ pub fn no_room(sample: &mut impl Read) -> bool {
     let solid = number(sample);
     let total = number(sample);
     let target = number(sample);
-    oc_goal::no_room(solid, total, target) == (word(sample) != 0)
+    oc_goal::no_room(solid, total, target).is_next(sample)
 }

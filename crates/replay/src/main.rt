@@ -21,27 +21,27 @@ const SECTIONS: u64 = 100;
 // Works out one case of a function, and answers whether it is as recorded.
 fn case(sample: &mut impl Read, function: u64) -> bool {
     match function {
-        1 => leaves::sqrt(sample),
-        2 => leaves::tanh(sample),
-        3 => leaves::max(sample),
-        4 => leaves::min(sample),
-        5 => leaves::clamp(sample),
-        6 => leaves::floor_at(sample),
-        7 => leaves::round_half_away(sample),
-        8 => leaves::level_of(sample),
+        1 => leaves::of_one(sample, ieee_root::sqrt),
+        2 => leaves::of_one(sample, ieee_tanh::tanh),
+        3 => leaves::of_two(sample, ieee::max),
+        4 => leaves::of_two(sample, ieee::min),
+        5 => leaves::of_one(sample, ieee::clamp),
+        6 => leaves::of_one(sample, ieee_whole::floor_at),
+        7 => leaves::of_one(sample, ieee_whole::round_half_away),
+        8 => leaves::of_one(sample, |x| u64::from(topo::level_of(x))),
         9 => leaves::modulus(sample),
         10 => leaves::image(sample),
         11 => leaves::dist2_to_triangle(sample),
         12 => leaves::project(sample),
         13 => leaves::no_room(sample),
-        14 => products::apply(sample),
-        15 => products::back(sample),
+        14 => products::product(sample, filter_apply::apply),
+        15 => products::product(sample, filter_back::back),
         16 => updates::update(sample),
         17 => meshes::tetrahedron(sample),
-        18 => tables::unmirrored(sample),
-        19 => tables::mirrored(sample),
-        20 => runs::unmirrored(sample),
-        21 => runs::mirrored(sample),
+        18 => tables::table(sample, &mut [[0.0; 6]; 0]),
+        19 => tables::table(sample, &mut [[0.0; 6]; 2]),
+        20 => runs::run(sample, &mut [[0.0; 6]; 0]),
+        21 => runs::run(sample, &mut [[0.0; 6]; 1]),
         22 => regions::off_centre(sample),
         _ => false,
     }
@@ -91,7 +91,7 @@ fn replayed(
 // A loop has to end, and nothing says that the input does: so the sections are counted.
 fn sections(sample: &mut impl Read, out: &impl Print) -> io::Result<Totals> {
     let mut t = Totals::none();
-    for _i in 0..SECTIONS {
+    for _ in 0..SECTIONS {
         let function = word(sample);
         if function == 0 {
             return Ok(t);

@@ -1,17 +1,12 @@
 // One case of a filter's table, of 8 elements: middles, volumes, radius, the planes; then starts, neighbours and coefficients, 64 places each of the
 // last two, zero behind the last row.
+use filter::work::{Input, TableMut, Work};
 use replay_sample::read::{are, fill};
 use replay_sample::words::number;
 use std::io::Read;
 
-// The planes are read last.
-fn built(
-    sample: &mut impl Read,
-    centroids: &[[f64; 3]],
-    volumes: &[f64],
-    radius: f64,
-    planes: &[[f64; 6]],
-) -> bool {
+// What comes is the table of an input.
+fn built(sample: &mut impl Read, input: Input) -> bool {
     let mut starts = [0u32; 9];
     let mut near = [0u32; 64];
     let mut coef = [0.0; 64];
@@ -23,46 +18,43 @@ fn built(
     let mut weight = [0.0; 8];
     let mut found = [0u32; 8];
     let mut bits = [0u64; 1040];
-    let refused = filter_build::build(
-        centroids,
-        volumes,
-        radius,
-        planes,
-        &mut starts,
-        &mut near,
-        &mut coef,
-        &mut cell,
-        &mut order,
-        &mut first,
-        &mut sorted,
-        &mut stamp,
-        &mut weight,
-        &mut found,
-        &mut bits,
-    );
+    let mut table = TableMut {
+        starts: &mut starts,
+        near: &mut near,
+        coef: &mut coef,
+    };
+    let mut work = Work {
+        cell: &mut cell,
+        order: &mut order,
+        first: &mut first,
+        sorted: &mut sorted,
+        stamp: &mut stamp,
+        weight: &mut weight,
+        found: &mut found,
+        bits: &mut bits,
+    };
+    let outcome = filter_build::build(input, &mut table, &mut work);
     let all_starts = are(sample, &starts);
     let all_near = are(sample, &near);
     let all_coef = are(sample, &coef);
-    (refused == 0) & all_starts & all_near & all_coef
+    outcome.is_ok() & all_starts & all_near & all_coef
 }
 
-pub fn unmirrored(sample: &mut impl Read) -> bool {
+// `planes` is room for the planes that the case has.
+pub fn table(sample: &mut impl Read, planes: &mut [[f64; 6]]) -> bool {
     let mut centroids = [[0.0; 3]; 8];
     let mut volumes = [0.0; 8];
     fill(sample, &mut centroids);
     fill(sample, &mut volumes);
     let radius = number(sample);
-    let none = [[0.0; 6]; 0];
-    built(sample, &centroids, &volumes, radius, &none)
-}
-
-pub fn mirrored(sample: &mut impl Read) -> bool {
-    let mut centroids = [[0.0; 3]; 8];
-    let mut volumes = [0.0; 8];
-    let mut two = [[0.0; 6]; 2];
-    fill(sample, &mut centroids);
-    fill(sample, &mut volumes);
-    let radius = number(sample);
-    fill(sample, &mut two);
-    built(sample, &centroids, &volumes, radius, &two)
+    fill(sample, planes);
+    built(
+        sample,
+        Input {
+            centroids: &centroids,
+            volumes: &volumes,
+            radius,
+            planes,
+        },
+    )
 }

@@ -1,10 +1,12 @@
 // One case of an update, of 12 elements and 48 entries: design, slopes of work and volume, marks, the move, target, tolerance, whether it is
 // sharpened with its steepness or the volume held solid, the table, volumes; then how it ended, the passes and the design, as the Rust gave them.
+use filter_table::Table;
 use oc_kept::Rule;
 use replay_sample::read::{are, fill};
 use replay_sample::words::{number, same, word};
 use std::io::Read;
 use topo::Ending;
+use update::Task;
 
 fn rule(sample: &mut impl Read) -> Rule {
     let sharpened = word(sample) != 0;
@@ -48,28 +50,27 @@ pub fn update(sample: &mut impl Read) -> bool {
     fill(sample, &mut near);
     fill(sample, &mut coef);
     fill(sample, &mut volumes);
-    let r = update::update(
-        &x,
-        &dc,
-        &dv,
-        &passive,
+    let task = Task {
+        x: &x,
+        dc: &dc,
+        dv: &dv,
+        passive: &passive,
         m,
         target,
         tolerance,
         rule,
-        &starts,
-        &near,
-        &coef,
-        &volumes,
-        &mut design,
-        &mut gain,
-        &mut work,
-    );
+        table: Table {
+            starts: &starts,
+            near: &near,
+            coef: &coef,
+        },
+        volumes: &volumes,
+    };
+    let r = update::update(task, &mut design, &mut gain, &mut work);
     let kind = word(sample);
     let first = number(sample);
     let second = number(sample);
     let passes = word(sample);
-    let ending = r.ending;
-    let as_told = ended_so(ending, kind, first, second);
+    let as_told = ended_so(r.ending, kind, first, second);
     as_told & (r.passes as u64 == passes) & are(sample, &design)
 }

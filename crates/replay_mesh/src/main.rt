@@ -45,9 +45,9 @@ fn replayed(sample: &mut impl Read, out: &impl Print, t: Totals) -> io::Result<T
 // There are four sections.
 fn main(rt: HostRuntime) -> io::Result<()> {
     let mut sample = rt.stdin();
-    let t = replayed(&mut sample, &rt, Totals::none())?;
-    let t = replayed(&mut sample, &rt, t)?;
-    let t = replayed(&mut sample, &rt, t)?;
-    let t = replayed(&mut sample, &rt, t)?;
+    let mut t = Totals::none();
+    for _ in 0..4 {
+        t = replayed(&mut sample, &rt, t)?;
+    }
     replay_sample::tell::total(&rt, t)
 }

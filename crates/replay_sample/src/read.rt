@@ -20,6 +20,16 @@ impl Recorded for f64 {
     }
 }
 
+impl Recorded for u64 {
+    fn read<R: Read>(sample: &mut R) -> u64 {
+        word(sample)
+    }
+
+    fn is_next<R: Read>(self, sample: &mut R) -> bool {
+        self == word(sample)
+    }
+}
+
 impl Recorded for u32 {
     fn read<R: Read>(sample: &mut R) -> u32 {
         (word(sample) % 0x1_0000_0000) as u32

@@ -41,7 +41,7 @@ pub fn differences<R: Read, F: Fn(&mut R) -> bool>(sample: &mut R, count: u64, c
     requires { F.IsAlwaysCallable case }
 {
     let mut different = 0u64;
-    for _i in 0..count {
+    for _ in 0..count {
         if !case(sample) {
             different = different.wrapping_add(1);
         }

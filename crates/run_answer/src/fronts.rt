@@ -1,98 +1,70 @@
 // Lists that are lent longer than needed: the round's calls on the needed places.
-ghost use Rattle.std.specs.Prelude.{◌≡◌, ◌<◌};
-ghost use Rattle.lists.specs.Lists.{overlay};
-ghost use Rattle.lent.specs.Lent.{Free};
-ghost use Rattle.run_answer.specs.Steps.{Asks, Enough, question_at, Solved};
+ghost use Rattle.std.specs.Prelude.{◌<◌};
+ghost use Rattle.run_plain.specs.Held.{core, working, SameFields};
+ghost use Rattle.run_answer.specs.Steps.{Asks, Enough, Asked, Solved, core_left, working_left};
 
-use run_plain::State;
+use run_plain::{Elements, Fields, State, Work};
 use topo::Iteration;
 
-// The densities of the next question, at a stage.
-pub fn ask(
-    state: State,
-    stage: usize,
-    passive: &[bool],
-    starts: &[u32],
-    near: &[u32],
-    coef: &[f64],
-    design: &[f64],
-    density: &mut [f64],
-    spare: &mut [f64],
-)
-    requires { Asks state passive.now starts.now near.now coef.now design.now density.old spare.old }
-    ensures { (density.new ≡ overlay (question_at state stage passive.now starts.now near.now coef.now design.now) density.old)
-        × Free state.setting.elements spare.old spare.new }
+// The densities of the next question.
+pub fn ask(state: State, elements: Elements, fields: &mut Fields, spare: &mut [f64])
+    requires { Asks state (core elements fields.old) spare.old }
+    ensures asked { Asked state (core elements.entry fields.old) spare.old (core elements.entry fields.new) spare.new }
+    ensures same { SameFields fields.old fields.new }
 {
-    let setting = state.setting;
-    let choice = setting.sharpen;
-    let sharpen = topo::sharpens(choice);
     let n = state.setting.elements;
-    let e = state.setting.entries;
+    let design = &mut *fields.design;
+    let density = &mut *fields.density;
+    let design = &mut design[..n];
     run_round::ask(
-        sharpen,
-        stage,
-        &starts[..n + 1usize],
-        &near[..e],
-        &coef[..e],
-        &passive[..n],
-        &design[..n],
+        state,
+        elements.front(n, state.setting.entries),
+        design,
         &mut density[..n],
         &mut spare[..n],
     );
 }
 
-// A round on the lists lent: its record; the design, and the densities asked for as those of the last record's round, are left. The last five
-// lists are for the call's own use.
+// A round on the lists lent: its record; the design, and the densities asked for as those of the last record's round, are left.
 pub fn solve(
     state: State,
     energies: &[f64],
-    volumes: &[f64],
-    passive: &[bool],
-    starts: &[u32],
-    near: &[u32],
-    coef: &[f64],
-    density: &[f64],
-    design: &mut [f64],
-    last: &mut [f64],
-    free: &mut [f64],
-    slope: &mut [f64],
-    spare: &mut [f64],
-    dc: &mut [f64],
-    dv: &mut [f64],
+    elements: Elements,
+    fields: Fields,
+    work: Work,
 ) -> Iteration
-    requires enough { Enough state energies.now
-        (record { volumes = volumes.now; passive = passive.now; starts = starts.now; near = near.now; coef = coef.now; design = design.old; density = density.now; last = last.old })
-        (record { free = free.old; slope = slope.old; spare = spare.old; dc = dc.old; dv = dv.old }) }
-    requires elements_bound { (state.setting.elements < 65536) × (state.progress.rounds < state.setting.max_iterations) }
-    ensures { Solved state energies.now
-        (record { volumes = volumes.now; passive = passive.now; starts = starts.now; near = near.now; coef = coef.now; design = design.old; density = density.now; last = last.old })
-        (record { free = free.old; slope = slope.old; spare = spare.old; dc = dc.old; dv = dv.old })
-        result design.new last.new
-        (record { free = free.new; slope = slope.new; spare = spare.new; dc = dc.new; dv = dv.new }) }
+    requires enough { Enough state energies.now (core elements fields) (working work) }
+    requires left { state.progress.rounds < state.setting.max_iterations }
+    ensures { Solved state energies.now (core elements.entry fields.entry) (working work.entry) result (core_left elements.entry fields.exit) (working_left work.exit) }
 {
-    let setting = state.setting;
-    let choice = setting.sharpen;
-    let sharpen = topo::sharpens(choice);
     let n = state.setting.elements;
-    let e = state.setting.entries;
-    update_design::copy(&density[..n], &mut last[..n]);
-    run_round::solve(
-        state.progress.rounds + 1usize,
-        state.progress.stage,
-        state.setting.fraction,
-        sharpen,
+    let Fields {
+        design,
+        density,
+        last,
+    } = fields;
+    let Work {
+        free,
+        slope,
+        spare,
+        dc,
+        dv,
+    } = work;
+    let entry = run_round::solve(
+        state.progress.rounds + 1,
+        state,
         energies,
-        &volumes[..n],
-        &passive[..n],
-        &starts[..n + 1usize],
-        &near[..e],
-        &coef[..e],
+        elements.front(n, state.setting.entries),
         &density[..n],
         &mut design[..n],
-        &mut free[..n],
-        &mut slope[..n],
-        &mut spare[..n],
-        &mut dc[..n],
-        &mut dv[..n],
-    )
+        Work {
+            free: &mut free[..n],
+            slope: &mut slope[..n],
+            spare: &mut spare[..n],
+            dc: &mut dc[..n],
+            dv: &mut dv[..n],
+        },
+    );
+    last[..n].copy_from_slice(&density[..n]);
+    entry
 }

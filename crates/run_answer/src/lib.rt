@@ -1,78 +1,50 @@
-// The core of an answer: every list but the history, whose record is returned with its place.
+// The core of an answer: every list but the history, whose record is returned.
 #![tactic(auto)]
 
 mod fronts;
 
-ghost use Rattle.std.specs.Prelude.{◌≡◌, set};
+ghost use Rattle.std.specs.Prelude.{◌≡◌, set, None};
+ghost use Rattle.run_plain.specs.Held.{core, working, SameFields, SameWork};
 ghost use Rattle.run_course.specs.Fit.{Fit};
 ghost use Rattle.run_answer.specs.Answers.{CoreAnswered};
 ghost use Rattle.run_answer.specs.Steps.{Asks, Enough, Begun, Followed};
 
-use run_plain::{Course, Heard, Reply, Returned, State, Verdict};
+use run_plain::{Elements, Fields, Heard, Reply, Returned, State, Verdict, Work};
 use topo::{Iteration, Stop};
 
-// What an answer returns, with a record and its place in the history: past the end where there is none to make.
+// What an answer returns, with the record that it makes: its place in the history is the number of those that stood before.
 #[derive(Clone, Copy)]
 pub struct Step {
     pub returned: Returned,
-    pub at: usize,
-    pub entry: Iteration,
+    pub entry: Option<Iteration>,
 }
 
-fn no_entry() -> Iteration {
-    Iteration {
-        number: 0,
-        compliance: 0.0,
-        fraction: 0.0,
-        change: 0.0,
-        sharpness: 0.0,
-        grey: 0.0,
-        passes: 0,
-    }
-}
-
-// An answer that makes no record. `room` is past the history's end.
-fn unrecorded(room: usize, state: State, reply: Reply) -> Step
-    ensures { (result.returned.state ≡ state) × (result.returned.reply ≡ reply) × (result.at ≡ room) }
+// An answer that makes no record.
+fn unrecorded(state: State, reply: Reply) -> Step
+    ensures { (result.returned.state ≡ state) × (result.returned.reply ≡ reply) × (result.entry ≡ None) }
 {
     Step {
         returned: Returned { state, reply },
-        at: room,
-        entry: no_entry(),
+        entry: None,
     }
 }
 
-// The solid part is solved: round 1 is asked for. `room` is past the history's end.
+// The solid part is solved: round 1 is asked for.
 fn begins(
-    room: usize,
     state: State,
     energies: &[f64],
-    passive: &[bool],
-    starts: &[u32],
-    near: &[u32],
-    coef: &[f64],
-    design: &[f64],
-    density: &mut [f64],
-    slope: &mut [f64],
+    elements: Elements,
+    fields: &mut Fields,
+    work: &mut Work,
 ) -> Step
-    requires { Asks state passive.now starts.now near.now coef.now design.now density.old slope.old }
-    ensures { Begun state energies.now room
-        passive.now starts.now near.now coef.now design.now density.old slope.old
-        result density.new slope.new }
+    requires { Enough state energies.now (core elements fields.old) (working work.old) }
+    ensures begun { Begun state energies.now (core elements.entry fields.old) (working work.old) result (core elements.entry fields.new) (working work.new) }
+    ensures same_fields { SameFields fields.old fields.new }
+    ensures same_work { SameWork work.old work.new }
 {
-    fronts::ask(
-        state,
-        state.progress.stage,
-        passive,
-        starts,
-        near,
-        coef,
-        design,
-        density,
-        slope,
-    );
+    fronts::ask(state, elements, fields, work.slope);
     let s = run_course::first_state(state, oc_record::compliance(energies));
-    unrecorded(room, s, Reply::Round(1))
+    unrecorded(s, Reply::Round(1))
 }
 
 // A round is solved and recorded: the first stop that applies ends the run, or the next round is asked for.
@@ -80,161 +52,76 @@ fn solves(
     state: State,
     heard: Heard,
     energies: &[f64],
-    volumes: &[f64],
-    passive: &[bool],
-    starts: &[u32],
-    near: &[u32],
-    coef: &[f64],
-    design: &mut [f64],
-    density: &mut [f64],
-    last: &mut [f64],
-    free: &mut [f64],
-    slope: &mut [f64],
-    spare: &mut [f64],
-    dc: &mut [f64],
-    dv: &mut [f64],
+    elements: Elements,
+    fields: &mut Fields,
+    work: &mut Work,
 ) -> Step
-    requires enough { Enough state energies.now
-        (record { volumes = volumes.now; passive = passive.now; starts = starts.now; near = near.now; coef = coef.now; design = design.old; density = density.old; last = last.old })
-        (record { free = free.old; slope = slope.old; spare = spare.old; dc = dc.old; dv = dv.old }) }
+    requires enough { Enough state energies.now (core elements fields.old) (working work.old) }
     requires fit { Fit state }
-    ensures { Followed state (record { heard = heard; energies = energies.now })
-        (record { volumes = volumes.now; passive = passive.now; starts = starts.now; near = near.now; coef = coef.now; design = design.old; density = density.old; last = last.old })
-        (record { free = free.old; slope = slope.old; spare = spare.old; dc = dc.old; dv = dv.old })
-        result
-        (record { volumes = volumes.now; passive = passive.now; starts = starts.now; near = near.now; coef = coef.now; design = design.new; density = density.new; last = last.new })
-        (record { free = free.new; slope = slope.new; spare = spare.new; dc = dc.new; dv = dv.new }) }
+    ensures followed { Followed state (record { heard = heard; energies = energies.now }) (core elements.entry fields.old) (working work.old) result (core elements.entry fields.new) (working work.new) }
+    ensures same_fields { SameFields fields.old fields.new }
+    ensures same_work { SameWork work.old work.new }
 {
     let entry = fronts::solve(
         state,
         energies,
-        volumes,
-        passive,
-        starts,
-        near,
-        coef,
-        &density[..],
-        design,
-        last,
-        free,
-        slope,
-        spare,
-        dc,
-        dv,
+        elements,
+        Fields {
+            design: &mut *fields.design,
+            density: &mut *fields.density,
+            last: &mut *fields.last,
+        },
+        Work {
+            free: &mut *work.free,
+            slope: &mut *work.slope,
+            spare: &mut *work.spare,
+            dc: &mut *work.dc,
+            dv: &mut *work.dv,
+        },
     );
-    let c = run_course::course(state, heard, entry);
-    match c {
-        Course::Ends(why) => {
-            return Step {
+    match run_course::course(state, heard, entry) {
+        Some(why) => Step {
+            returned: Returned {
+                state: run_course::recorded_state(state, entry),
+                reply: Reply::Stop(why),
+            },
+            entry: Some(entry),
+        },
+        None => {
+            let next = run_course::onward_state(state, entry);
+            fronts::ask(next, elements, fields, work.slope);
+            Step {
                 returned: Returned {
-                    state: run_course::recorded_state(state, entry),
-                    reply: Reply::Stop(why),
-                },
-                at: state.progress.rounds,
-                entry,
-            };
-        }
-        Course::Onward => {
-            let s = run_course::onward_state(state, entry);
-            fronts::ask(
-                state,
-                s.progress.stage,
-                passive,
-                starts,
-                near,
-                coef,
-                &design[..],
-                density,
-                slope,
-            );
-            return Step {
-                returned: Returned {
-                    state: s,
+                    state: next,
                     reply: Reply::Round(run_course::next_round(state)),
                 },
-                at: state.progress.rounds,
-                entry,
-            };
+                entry: Some(entry),
+            }
         }
     }
 }
 
-// An answer, the history having room for so many records. The last five lists are for the call's own use.
+// An answer, the history having room for so many records.
 pub fn answer_core(
     room: usize,
     state: State,
     heard: Heard,
     energies: &[f64],
-    volumes: &[f64],
-    passive: &[bool],
-    starts: &[u32],
-    near: &[u32],
-    coef: &[f64],
-    design: &mut [f64],
-    density: &mut [f64],
-    last: &mut [f64],
-    free: &mut [f64],
-    slope: &mut [f64],
-    spare: &mut [f64],
-    dc: &mut [f64],
-    dv: &mut [f64],
+    elements: Elements,
+    fields: &mut Fields,
+    work: &mut Work,
 ) -> Step
-    ensures { CoreAnswered state (record { heard = heard; energies = energies.now }) room
-        (record { volumes = volumes.now; passive = passive.now; starts = starts.now; near = near.now; coef = coef.now; design = design.old; density = density.old; last = last.old })
-        (record { free = free.old; slope = slope.old; spare = spare.old; dc = dc.old; dv = dv.old })
-        result
-        (record { volumes = volumes.now; passive = passive.now; starts = starts.now; near = near.now; coef = coef.now; design = design.new; density = density.new; last = last.new })
-        (record { free = free.new; slope = slope.new; spare = spare.new; dc = dc.new; dv = dv.new }) }
+    ensures answered { CoreAnswered state (record { heard = heard; energies = energies.now }) room (core elements.entry fields.old) (working work.old)
+        result (core elements.entry fields.new) (working work.new) }
+    ensures same_fields { SameFields fields.old fields.new }
+    ensures same_work { SameWork work.old work.new }
 {
-    let v = run_verdict::verdict(
-        state,
-        heard,
-        energies,
-        volumes.len(),
-        passive.len(),
-        starts.len(),
-        near.len(),
-        coef.len(),
-        design.len(),
-        density.len(),
-        last.len(),
-        room,
-        free.len(),
-        slope.len(),
-        spare.len(),
-        dc.len(),
-        dv.len(),
-    );
-    match v {
-        Verdict::Kept(n) => {
-            return unrecorded(room, state, Reply::Refused(n));
-        }
-        Verdict::Over(n) => {
-            return unrecorded(room, run_plain::ended(state), Reply::Refused(n));
-        }
-        Verdict::Halts => {
-            return unrecorded(room, run_plain::ended(state), Reply::Stop(Stop::Stopped));
-        }
-        Verdict::Begins => {
-            return begins(
-                room,
-                state,
-                energies,
-                passive,
-                starts,
-                near,
-                coef,
-                &design[..],
-                density,
-                slope,
-            );
-        }
-        Verdict::Solves => {
-            return solves(
-                state, heard, energies, volumes, passive, starts, near, coef, design, density,
-                last, free, slope, spare, dc, dv,
-            );
-        }
+    match run_verdict::verdict(state, heard, energies, elements, &*fields, room, &*work) {
+        Verdict::Kept(r) => unrecorded(state, Reply::Refused(r)),
+        Verdict::Over(r) => unrecorded(state.ended(), Reply::Refused(r)),
+        Verdict::Halts => unrecorded(state.ended(), Reply::Stop(Stop::Stopped)),
+        Verdict::Begins => begins(state, energies, elements, fields, work),
+        Verdict::Solves => solves(state, heard, energies, elements, fields, work),
     }
 }
 

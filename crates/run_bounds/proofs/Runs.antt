@@ -1,4 +1,6 @@
 -- The bounds of every update of a run: by induction on the answers. Assumes nothing.
+use Rattle.topo.specs.declared.Stop.{Stop}
+use Rattle.std.specs.Prelude.{Option, Some, None}
 use mathlib.Core.Path.{◌≡◌, refl, sym, ◌∙◌, subst}
 use mathlib.Core.Bool.{Bool, true, false}
 use mathlib.Core.List.{List, [], ◌∷◌}
@@ -17,11 +19,8 @@ use Rattle.update_rates.specs.Keeps.{Range, AllRange, Move, Keeps}
 use Rattle.update_rates.proofs.Bounds.{choose-either, one-range, update-bounds}
 use Rattle.run_plain.specs.declared.Verdict.{Verdict}
 use Rattle.run_plain.specs.declared.Verdict.TheVariants.{Kept, Over, Halts, Begins, Solves}
-use Rattle.run_plain.specs.declared.Course.{Course}
-use Rattle.run_plain.specs.declared.Course.TheVariants.{Onward, Ends}
-use Rattle.run_plain.specs.declared.Entry.TheVariants.{Opens}
 use Rattle.run_plain.specs.Formulas.{Steep, s1, s2, s4, s8, s16, sharpness, Case, move_at, given_at, update_at, record_at}
-use Rattle.run_plain.specs.Opening.{Opening, solid_of, total_of, target_at, first_refusal, at_first, entry_of, case_of, start_of}
+use Rattle.run_plain.specs.Opening.{Opening, solid_of, total_of, target_at, first_refusal, at_first, entry_of, case_of, start_of, Opens}
 use Rattle.run_plain.specs.Plain.{Answer, Out, Seen, in_order, judged, first_stop, Run, plain_start, asked_of, updated, stops_of, onward, checks_of, after, answered, left_of, plain_from, plain_run}
 use Rattle.run_plain.proofs.Runs.{given-kept}
 use Rattle.run_bounds.specs.Bounds.{Within, none, kept, moved, WithinRun, opened}
@@ -76,9 +75,9 @@ module _ (r : Run) (a : Answer) (all : AllRange r.design) where
   abbrev Then : Run → Out → Type 0
   Then q out = (more : List Seen) → (AllRange q.design → Within r.given (in_order q.rows) q.design more) → Within r.given (in_order r.rows) r.design (record { out = out; left = left_of q } ∷ more)
 
-  then-onward : (v : Course) → Then (onward next v).run (onward next v).out
-  then-onward (Ends why) more k = moved (record_at (case_of r.given) r.steep r.design (asked_of r) a.energies (suc (length r.rows))) r.steep steep-is bound (k range)
-  then-onward Onward more k = moved (record_at (case_of r.given) r.steep r.design (asked_of r) a.energies (suc (length r.rows))) r.steep steep-is bound (k range)
+  then-onward : (v : Option Stop) → Then (onward next v).run (onward next v).out
+  then-onward (Some why) more k = moved (record_at (case_of r.given) r.steep r.design (asked_of r) a.energies (suc (length r.rows))) r.steep steep-is bound (k range)
+  then-onward None more k = moved (record_at (case_of r.given) r.steep r.design (asked_of r) a.energies (suc (length r.rows))) r.steep steep-is bound (k range)
 
   then-after : (v : Verdict) → Then (after r a v).run (after r a v).out
   then-after (Kept n) more k = kept (k all)

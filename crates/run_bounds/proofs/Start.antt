@@ -26,7 +26,7 @@ use Rattle.oc_start.specs.Start.{solid_volume}
 use Rattle.ieee_lanes.proofs.Order.{Plus, Finite, finite-plus, positive-finite, lt_of_lt_of_le, lt_of_le_of_lt, add-plus, add-grows, mul-plus, div-plus, positive_of-tests, round-plus}
 use Rattle.run_plain.specs.Formulas.{sum_of}
 use Rattle.run_plain.specs.Opening.{Opening, elements, solid_of, total_of, target_at, first_refusal}
-use Rattle.run_plain.proofs.Checks.{checked}
+use Rattle.run_plain.proofs.Passes.{checked}
 use Rattle.update_rates.proofs.Floats.{finite-below, cross, add-over, sub_is, sub-under, sub-grows, sub-positive, mul-under, div-under}
 use Rattle.update_rates.specs.Keeps.{Range}
 use Rattle.update_rates.proofs.Bounds.{in-range}

@@ -1,4 +1,5 @@
 -- Demand 3 across the boundary: whatever `sokdrib_open` and `sokdrib_answer` tell that meets their contracts is what the plain run shows. Assumes nothing.
+use Rattle.std.specs.Prelude.{Option, Some, None}
 use mathlib.Core.Path.{◌≡◌, refl, sym, ap, ◌∙◌, subst}
 use mathlib.Core.Bool.{false, ◌||◌}
 use mathlib.Core.List.{List, [], ◌∷◌, map}
@@ -6,21 +7,23 @@ use Prim.Native.Nat.{ℕ}
 use lib.ListN.{length, take, set, length-map}
 use lib.Dec.{eqb}
 use Rattle.lists.specs.Lists.{choose, overlay}
-use Rattle.lists.proofs.Mapped.{map-take, map-set, map-overlay}
+use Rattle.lists.proofs.Mapped.{map-take, map-set, map-overlay, set_past}
 use Rattle.topo.specs.declared.Iteration.{Iteration}
 use Rattle.topo.specs.declared.Stop.{Stop as Reason}
+use Rattle.topo.specs.Stops.{stop_number}
 use Rattle.topo.specs.declared.Stop.TheVariants.{Settled, LevelledOff, Limit, Budget, Stopped}
 use Rattle.run_plain.specs.declared.Reply.{Reply}
 use Rattle.run_plain.specs.declared.Reply.TheVariants.{Refused, Solid, Round, Stop}
 use Rattle.run_plain.specs.Plain.{stops, unopened, plain_run}
-use Rattle.run_plain.specs.Calls.{lists_of, Core, Result, World, lend, world_after, open_of, opening_of, answer_of, out_by, out_of as call_out, left_at as call_left, result_of, calls_from, calls_shut, calls_by, calls_run, fed, NoRun}
+use Rattle.run_plain.specs.Calls.{lists_of, Core, Result, replied, World, lend, world_after, open_of, opening_of, answer_of, out_by, out_of as call_out, left_at as call_left, result_of, calls_from, calls_shut, calls_by, calls_run, fed, NoRun}
 use Rattle.run_plain.proofs.Parts.{overlay-part}
 use Rattle.run_plain.proofs.Demand.{demand}
 use Rattle.run_plain.specs.declared.Returned.{Returned}
+use Rattle.run_answer.specs.Answers.{noted, recorded}
 use Rattle.c_numbers.specs.declared.RunState.{RunState}
 use Rattle.c_numbers.specs.declared.RunReturned.{RunReturned}
 use Rattle.c_numbers.specs.declared.RunStep.{RunStep}
-use Rattle.c_numbers.specs.Flat.{phase_of, state_of, state_numbers, stop_number, reply_kind, reply_number, returned_numbers, record_numbers, step_numbers, no_runs, no_goals, OpenedIn, AnsweredIn}
+use Rattle.c_numbers.specs.Flat.{phase_of, state_of, state_numbers, reply_kind, reply_number, returned_numbers, record_numbers, step_at, entry_numbers, step_numbers, no_runs, no_goals, OpenedIn, AnsweredIn}
 use Rattle.run_demand.specs.Across.{Held, record_of, world_of, lent_core, back_core, OpenCall, AnswerCall, MetOpen, asked_of, arguments_of, Met, AllMet, opened, answered, stop_of, out_of, left_at, seen_from, seen_shut, seen_run, call_of}
 use Rattle.c_numbers.proofs.Laws.{state-passes}
 
@@ -37,11 +40,11 @@ stop-back Limit = refl
 stop-back Budget = refl
 stop-back Stopped = refl
 
-out-is : (t : Returned) (l : Core) (h : List Iteration) → out_of (returned_numbers t) l ≡ out_by t.reply t.state.setting.elements (lists_of l h)
+out-is : (t : Returned) (l : Core) (h : List Iteration) → out_of (returned_numbers t) l ≡ out_by (replied t.reply) t.state.setting.elements (lists_of l h)
 unfolding out_of returned_numbers state_numbers choose
 out-is t l h = go t.reply
   where
-    go : (q : Reply) → out_of (record { state = state_numbers t.state; reply = reply_kind q; number = reply_number q }) l ≡ out_by q t.state.setting.elements (lists_of l h)
+    go : (q : Reply) → out_of (record { state = state_numbers t.state; reply = reply_kind q; number = reply_number q }) l ≡ out_by (replied q) t.state.setting.elements (lists_of l h)
     go (Refused n) = refl
     go Solid = refl
     go (Round n) = refl
@@ -58,8 +61,11 @@ module _ (h : Held) (m : AnswerCall) (e : Met h m) (p : no_runs h.state ≡ fals
   long : length past ≡ length (take m.lent.history h.history)
   long = ap length (sym (map-take record_of m.lent.history h.history)) ∙ length-map (take m.lent.history h.history) record_of
 
+  abbrev rounds : ℕ
+  rounds = (state_of h.state).progress.rounds
+
   abbrev result : Result
-  result = record { state = known.step.returned.state; reply = known.step.returned.reply; lists = lists_of m.core (set past known.step.at known.step.entry) }
+  result = recorded (state_of h.state) known.step m.core past
 
   result-is : result ≡ result_of (world_of h) (call_of m)
   result-is = known.answers.same past long ∙ ap (λ (w : List ℕ). answer_of (state_of h.state) (arguments_of m) w (lend m.lent (world_of h).lists)) e.long
@@ -68,19 +74,20 @@ module _ (h : Held) (m : AnswerCall) (e : Met h m) (p : no_runs h.state ≡ fals
   unfolding step_numbers returned_numbers
   state-is = ap (λ (r : RunStep). r.returned.state) known.numbers
 
-  at-is : m.step.at ≡ known.step.at
-  unfolding step_numbers
-  at-is = ap (λ (r : RunStep). r.at) known.numbers
+  -- a record at its place, and none past the end
+  placed : (x : Option Iteration) → set past (step_at (length (take m.lent.history h.history)) rounds x) (record_of (entry_numbers x)) ≡ noted past rounds x
+  placed None = (λ i. set past (sym long i) (record_of (entry_numbers None))) ∙ set_past past (record_of (entry_numbers None))
+  placed (Some x) = ap (set past rounds) (record-back x)
 
-  entry-is : record_of m.step.entry ≡ known.step.entry
+  entry-is : set past m.step.at (record_of m.step.entry) ≡ noted past rounds known.step.entry
   unfolding step_numbers
-  entry-is = ap (λ (r : RunStep). record_of r.entry) known.numbers ∙ record-back known.step.entry
+  entry-is = ap (λ (r : RunStep). set past r.at (record_of r.entry)) known.numbers ∙ placed known.step.entry
 
-  history-is : map record_of (answered h m).history ≡ overlay (set past known.step.at known.step.entry) (map record_of h.history)
+  history-is : map record_of (answered h m).history ≡ overlay (noted past rounds known.step.entry) (map record_of h.history)
   history-is =
       map-overlay record_of (set (take m.lent.history h.history) m.step.at m.step.entry) h.history
       ∙ ap (λ (l : List Iteration). overlay l (map record_of h.history))
-      (map-set record_of (take m.lent.history h.history) m.step.at m.step.entry ∙ (λ i. set (map-take record_of m.lent.history h.history i) (at-is i) (entry-is i)))
+      (map-set record_of (take m.lent.history h.history) m.step.at m.step.entry ∙ (λ i. set (map-take record_of m.lent.history h.history i) m.step.at (record_of m.step.entry)) ∙ entry-is)
 
   world_is : world_of (answered h m) ≡ world_after (world_of h).lists (result_of (world_of h) (call_of m))
   world_is =
@@ -92,7 +99,7 @@ module _ (h : Held) (m : AnswerCall) (e : Met h m) (p : no_runs h.state ≡ fals
 
   answer-out : out_of m.step.returned m.core ≡ call_out (result_of (world_of h) (call_of m))
   unfolding step_numbers
-  answer-out = ap (λ (r : RunStep). out_of r.returned m.core) known.numbers ∙ out-is known.step.returned m.core (set past known.step.at known.step.entry) ∙ ap call_out result-is
+  answer-out = ap (λ (r : RunStep). out_of r.returned m.core) known.numbers ∙ out-is known.step.returned m.core (noted past rounds known.step.entry) ∙ ap call_out result-is
 
 left_is : (h : Held) → left_at h ≡ call_left (world_of h)
 unfolding state_of
@@ -129,7 +136,7 @@ module _ (h : Held) (b : OpenCall) (e : MetOpen h b) (p : (no_runs h.state || no
   before-long = ap length (sym (map-take record_of b.lent.history h.history)) ∙ length-map (take b.lent.history h.history) record_of
 
   abbrev first : Result
-  first = record { state = begun.returned.state; reply = begun.returned.reply; lists = lists_of b.core before }
+  first = record { state = begun.returned.state; reply = replied begun.returned.reply; lists = lists_of b.core before }
 
   first-is : first ≡ open_of (state_of h.state) (asked_of b) b.lent.work (lend b.lent (world_of h).lists)
   first-is = begun.opens.same before before-long ∙ ap (λ (w : List ℕ). open_of (state_of h.state) (asked_of b) w (lend b.lent (world_of h).lists)) e.long
@@ -153,7 +160,7 @@ module _ (h : Held) (b : OpenCall) (e : MetOpen h b) (p : (no_runs h.state || no
 
   module _ (more : List AnswerCall) (all : AllMet (opened h b) more) where
     by-reply : (q : Reply) → choose (eqb (reply_kind q) 0) (record { out = out_of b.returned b.core; left = unopened } ∷ seen_shut (opened h b) more) (record { out = out_of b.returned b.core; left = left_at (opened h b) } ∷ seen_from (opened h b) more)
-        ≡ calls_by (world_after (world_of h).lists first) (map call_of more) q (call_out first)
+        ≡ calls_by (world_after (world_of h).lists first) (map call_of more) (replied q) (call_out first)
     unfolding choose
     by-reply (Refused n) = λ i. record { out = first_out i; left = unopened } ∷ (shut-is (opened h b) more first_passes all ∙ ap (λ (v : World). calls_shut v (map call_of more)) first-world) i
     by-reply Solid = λ i. record { out = first_out i; left = (left_is (opened h b) ∙ ap call_left first-world) i } ∷ (from_is (opened h b) more first_passes all ∙ ap (λ (v : World). calls_from v (map call_of more)) first-world) i

@@ -11,7 +11,7 @@ use Rattle.run_plain.specs.declared.Reply.TheVariants.{Refused, Solid, Round, St
 use Rattle.run_plain.specs.Plain.{Out, Answer, Run, Seen, unopened}
 use Rattle.run_plain.specs.Runs.{Ended, recorded_in}
 use Rattle.run_plain.proofs.Whole.{closed-passes}
-use Rattle.run_plain.specs.Calls.{Result, World, open_of, answer_of, lend, world_after, out_of, left_at, result_of, calls_from, calls_shut, calls_by, calls_run, fed, NoRun, fresh, sound, in_turn, world_open, world_from}
+use Rattle.run_plain.specs.Calls.{Result, replied, World, open_of, answer_of, lend, world_after, out_of, left_at, result_of, calls_from, calls_shut, calls_by, calls_run, fed, NoRun, fresh, sound, in_turn, world_open, world_from}
 use Rattle.run_plain.specs.Demand.{OpenedRun, Stands, EndsAt}
 use Rattle.run_plain.proofs.Demand.{demand}
 use Rattle.run_bounds.specs.Bounds.{WithinRun}
@@ -43,7 +43,7 @@ shut-is w (m ∷ more) h =
     let t = shut-is (world_after w.lists (answer_result m)) more h.1 ∙ ap (λ (r : Result). calls_shut (world_after w.lists r) (map call_of more)) e in
     λ i. record { out = out_of (e i); left = unopened } ∷ t i
 
-by-is : (w : World) (more : List Made) → AllMet w more → (r : Reply) (out : Out) → seen_by w more r out ≡ calls_by w (map call_of more) r out
+by-is : (w : World) (more : List Made) → AllMet w more → (r : Reply) (out : Out) → seen_by w more r out ≡ calls_by w (map call_of more) (replied r) out
 by-is w more h (Refused n) out = ap (λ (l : List Seen). record { out = out; left = unopened } ∷ l) (shut-is w more h)
 by-is w more h Solid out = ap (λ (l : List Seen). record { out = out; left = left_at w } ∷ l) (from_is w more h)
 by-is w more h (Round n) out = ap (λ (l : List Seen). record { out = out; left = left_at w } ∷ l) (from_is w more h)

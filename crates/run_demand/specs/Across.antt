@@ -8,8 +8,8 @@ use Rattle.topo.specs.declared.Stop.TheVariants.{Settled, LevelledOff, Limit, Bu
 use Rattle.run_plain.specs.Lent.{Sizes}
 use Rattle.run_plain.specs.Plain.{Out, refused, asks, stops, solid, round, Shown, unopened, shown, Seen}
 use Rattle.run_plain.specs.Calls.{lists_of, Core, Asked, Arguments, World, Call}
-use Rattle.run_answer.specs.Answers.{Work, lengths_of}
-use Rattle.run_open_checks.specs.Opens.{Work as OpenWork, lengths_of as open_lengths}
+use Rattle.filter.specs.Build.{Working as OpenWorking, work_lengths}
+use Rattle.run_plain.specs.Held.{Working, lengths_of}
 use Rattle.c_numbers.specs.declared.RunState.{RunState}
 use Rattle.c_numbers.specs.declared.RunGoal.{RunGoal}
 use Rattle.c_numbers.specs.declared.RunHeard.{RunHeard}
@@ -46,19 +46,19 @@ pub record OpenCall : Type 0 where
   pub mirrors : List (List Float)
   pub goal : RunGoal
   pub flag : Bool
-  pub work : OpenWork
+  pub work : OpenWorking
   pub returned : RunReturned
   pub core : Core
-  pub worked : OpenWork
+  pub worked : OpenWorking
 
 pub record AnswerCall : Type 0 where
   pub lent : Sizes
   pub heard : RunHeard
   pub energies : List Float
-  pub work : Work
+  pub work : Working
   pub step : RunStep
   pub core : Core
-  pub worked : Work
+  pub worked : Working
 
 abbrev pub asked_of : OpenCall → Asked
 asked_of b = record { centroids = b.centroids; mirrors = b.mirrors; goal = goal_of b.goal; flag = b.flag }
@@ -67,7 +67,7 @@ abbrev pub arguments_of : AnswerCall → Arguments
 arguments_of m = record { heard = heard_of m.heard; energies = m.energies }
 
 pub record MetOpen (h : Held) (b : OpenCall) : Type 0 where
-  pub long : open_lengths b.work ≡ b.lent.work
+  pub long : work_lengths b.work ≡ b.lent.work
   pub contract : OpenedAs h.state b.goal (asked_of b) (length (take b.lent.history h.history)) (lent_core b.lent h.lists) b.work b.returned b.core b.worked
 
 pub record Met (h : Held) (m : AnswerCall) : Type 0 where

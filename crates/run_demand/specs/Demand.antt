@@ -2,9 +2,8 @@
 -- that calls as it takes them can always be made.
 use Rattle.std.specs.Prelude.{◌≡◌, false, List, map, ◌≤◌, take}
 use Rattle.topo.specs.declared.Sharpening.TheVariants.{Full}
-use Rattle.run_plain.specs.declared.Entry.TheVariants.{Opens}
 use Rattle.run_plain.specs.Formulas.{Steep}
-use Rattle.run_plain.specs.Opening.{Opening, entry_of}
+use Rattle.run_plain.specs.Opening.{Opening, entry_of, Opens}
 use Rattle.run_plain.specs.Plain.{Out, Answer, Run, sharpest, plain_run, plain_start, run_from}
 use Rattle.run_plain.specs.Runs.{rounds_begun, times, FullFrom, Ended, made as made_in, recorded_in}
 use Rattle.run_plain.specs.Calls.{World, opening_of, lend, out_of, fed, NoRun}

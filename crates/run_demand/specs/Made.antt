@@ -6,30 +6,30 @@ use Rattle.run_plain.specs.declared.Reply.{Reply}
 use Rattle.run_plain.specs.declared.Reply.TheVariants.{Refused, Solid, Round, Stop}
 use Rattle.run_plain.specs.Lent.{Sizes}
 use Rattle.run_plain.specs.Plain.{Out, Seen, unopened}
-use Rattle.run_plain.specs.Calls.{Lists, lists_of, Core, Asked, Arguments, Result, World, Call, lend, world_after, out_of, left_at}
+use Rattle.run_plain.specs.Calls.{Lists, lists_of, Core, Asked, Arguments, Result, replied, World, Call, lend, world_after, out_of, left_at}
 use Rattle.run_plain.specs.declared.Returned.{Returned}
-use Rattle.run_answer.specs.Answers.{Work, lengths_of}
-use Rattle.run_open_checks.specs.Opens.{Work as OpenWork, lengths_of as open_lengths}
+use Rattle.filter.specs.Build.{Working as OpenWorking, work_lengths}
+use Rattle.run_plain.specs.Held.{Working, lengths_of}
 use Rattle.run.specs.Run.{Opened, Answered}
 
 -- a call of `open`: how much of each list was lent, what was asked, its working lists, and what came back
 pub record MadeOpen : Type 0 where
   pub lent : Sizes
   pub asked : Asked
-  pub work : OpenWork
+  pub work : OpenWorking
   pub returned : Returned
   pub core : Core
-  pub worked : OpenWork
+  pub worked : OpenWorking
   pub history : List Iteration
 
 -- a call of `answer`
 pub record Made : Type 0 where
   pub lent : Sizes
   pub arguments : Arguments
-  pub work : Work
+  pub work : Working
   pub returned : Returned
   pub core : Core
-  pub worked : Work
+  pub worked : Working
   pub history : List Iteration
 
 abbrev pub core_of : Lists → Core
@@ -37,17 +37,17 @@ core_of l = record { volumes = l.volumes; passive = l.passive; starts = l.starts
 
 -- what came back
 abbrev pub open_result : MadeOpen → Result
-open_result b = record { state = b.returned.state; reply = b.returned.reply; lists = lists_of b.core b.history }
+open_result b = record { state = b.returned.state; reply = replied b.returned.reply; lists = lists_of b.core b.history }
 
 abbrev pub answer_result : Made → Result
-answer_result m = record { state = m.returned.state; reply = m.returned.reply; lists = lists_of m.core m.history }
+answer_result m = record { state = m.returned.state; reply = replied m.returned.reply; lists = lists_of m.core m.history }
 
 abbrev pub call_of : Made → Call
 call_of m = record { lent = m.lent; arguments = m.arguments }
 
 -- the call met its contract, on the caller's state and on the first places of its lists
 pub record MetOpen (w : World) (b : MadeOpen) : Type 0 where
-  pub long : open_lengths b.work ≡ b.lent.work
+  pub long : work_lengths b.work ≡ b.lent.work
   pub contract : Opened w.state b.asked (core_of (lend b.lent w.lists)) b.work (lend b.lent w.lists).history b.returned b.core b.worked b.history
 
 pub record Met (w : World) (m : Made) : Type 0 where

@@ -10,27 +10,29 @@ use lib.Dec.{eqb}
 use lib.Ieee.{Float}
 use borrow.Author.Tests.{ltb-false, eqb-true, ne_eqb, not-false}
 use Rattle.lists.specs.Lists.{tabulate, choose, zero64, overlay}
-use Rattle.lists.proofs.Laws.{neither, choose-false, length-tabulate, get_or-tabulate, overwrite-is}
+use Rattle.lists.proofs.Laws.{neither, choose-false, length-tabulate, get_or-tabulate, tabulate_throughout}
 use Rattle.ieee.specs.Basic.{one64}
 use Rattle.filter.specs.Filter.{start}
-use Rattle.filter.specs.Build.{Lent, outcome, Built}
+use Rattle.filter.specs.Build.{Lent, Working, outcome, Built}
 use Rattle.lent.specs.Lent.{Outcome, zeroed, done, number_of, left, Worked}
+use Rattle.refusal.specs.declared.Refusal.{Refusal}
+use Rattle.refusal.specs.Refusals.{number_of as number_of_refusal}
+use Rattle.refusal.proofs.Numbers.{some_number}
 use Rattle.run_plain.specs.declared.State.{State}
 use Rattle.run_plain.specs.declared.Reply.TheVariants.{Refused}
-use Rattle.run_plain.specs.declared.Entry.TheVariants.{Zeroed, Shut, Opens}
 use Rattle.run_plain.specs.Lent.{open_short, run_short}
 use Rattle.run_plain.specs.Formulas.{ones}
-use Rattle.run_plain.specs.Opening.{Opening, elements, starts_of, near_of, coef_of, start_of, table_refusal, first_refusal, lastly, entry_of}
+use Rattle.run_plain.specs.Opening.{Opening, elements, starts_of, near_of, coef_of, start_of, table_refusal, first_refusal, lastly, entry_of, Zeroed, Shut, Opens, Kept}
 use Rattle.run_plain.specs.Calls.{Core, Asked, ended_of, in_turn, opened_state}
 use Rattle.run_plain.proofs.Formulas.{length-start}
 use Rattle.run_plain.specs.declared.Returned.{Returned}
-use Rattle.run_open_checks.specs.Opens.{Work, opening_in, Left, CoreOpened}
+use Rattle.run_open_checks.specs.Opens.{opening_in, Left, CoreOpened}
 use Rattle.run_open_checks.proofs.Opens.{kept_law, zeroed_law, shut_law, opens_law}
 use Rattle.run_open_checks.proofs.Outcome.{entry_kept, entry-zeroed, entry-last, passed, not_short, outcome-is}
-use Rattle.run_open_last.specs.Steps.{Lastly, ShutBy, BegunBy}
+use Rattle.run_open_last.specs.Steps.{Lastly, ShutBy, begun, BegunBy}
 
 -- the lists of a build
-abbrev pub lent_of : List ℕ → List ℕ → List Float → Work → Lent
+abbrev pub lent_of : List ℕ → List ℕ → List Float → Working → Lent
 lent_of st ne co w = record { starts = st; near = ne; coef = co; cell = w.cell; order = w.order; first = w.first; sorted = w.sorted; stamp = w.stamp; weight = w.weight; found = w.found; bits = w.bits }
 
 zeroed-is : (n : ℕ) → choose (eqb (suc n) 0) done (zeroed (suc n)) ≡ zeroed (suc n)
@@ -45,16 +47,19 @@ built-is : choose (eqb 0 0) done (zeroed 0) ≡ done
 unfolding choose
 built-is = refl
 
-module _ (s : State) (g : Asked) (room : ℕ) (l : Core) (w : Work) where
+module _ (s : State) (g : Asked) (room : ℕ) (l : Core) (w : Working) where
   abbrev o : Opening
   o = opening_in g room l w
 
   -- a refusal before the rows
-  pub refused_law : (r : ℕ) → in_turn s.phase ≡ true → r ≡ first_refusal o → 0 < r → CoreOpened s g room l w (record { state = s; reply = Refused r }) l w
-  refused_law zero t e p = absurd (omega (arith, p))
-  refused_law (suc n) t e p = kept_law s g room l w (suc n) t (entry_kept o n (sym e))
+  pub refused_law : (x : Refusal) → in_turn s.phase ≡ true → number_of_refusal x ≡ first_refusal o → CoreOpened s g room l w (record { state = s; reply = Refused x }) l w
+  refused_law x t e = kept_law s g room l w x t (go (number_of_refusal x) (some_number x) (sym e))
+    where
+      go : (k : ℕ) → 0 < k → first_refusal o ≡ k → entry_of o ≡ Kept k
+      go zero p q = absurd (omega (arith, p))
+      go (suc n) p q = entry_kept o n q
 
-  module _ (turn : in_turn s.phase ≡ true) (none : first_refusal o ≡ 0) (b : ℕ) (st ne : List ℕ) (co : List Float) (w₁ : Work)
+  module _ (turn : in_turn s.phase ≡ true) (none : first_refusal o ≡ 0) (b : ℕ) (st ne : List ℕ) (co : List Float) (w₁ : Working)
       (made : Built g.centroids l.volumes g.goal.radius g.mirrors (lent_of l.starts l.near l.coef w) b (lent_of st ne co w₁)) where
     abbrev came : Outcome
     came = outcome g.centroids l.volumes g.goal.radius g.mirrors (lent_of l.starts l.near l.coef w)
@@ -72,12 +77,12 @@ module _ (s : State) (g : Asked) (room : ℕ) (l : Core) (w : Work) where
     zeroes : (n : ℕ) → b ≡ suc n → came ≡ zeroed (suc n)
     zeroes n e = comes ∙ ap (λ (t : ℕ). choose (eqb t 0) done (zeroed t)) (sym b-is ∙ e) ∙ zeroed-is n
 
-    rows-by : (n : ℕ) → b ≡ suc n → CoreOpened s g room l w (record { state = s; reply = Refused b }) (record { volumes = l.volumes; passive = l.passive; starts = st; near = ne; coef = co; design = l.design; density = l.density; last = l.last }) w₁
+    rows-by : (x : Refusal) (n : ℕ) → b ≡ number_of_refusal x → b ≡ suc n → CoreOpened s g room l w (record { state = s; reply = Refused x }) (record { volumes = l.volumes; passive = l.passive; starts = st; near = ne; coef = co; design = l.design; density = l.density; last = l.last }) w₁
     unfolding near_of coef_of
-    rows-by n e =
+    rows-by x n d e =
         let c = zeroes n e in
         let f = entry-zeroed o n none (sym b-is ∙ e) in
-        let h : Left (length l.volumes) w w₁ (Zeroed b) =
+        let h : Left (length l.volumes) w w₁ (Zeroed (number_of_refusal x)) =
         record {
           cell = subst (λ (v : Outcome). Worked v (length g.centroids) (0 ∷ 0 ∷ 0 ∷ []) w.cell w₁.cell) c made.cell;
           order = subst (λ (v : Outcome). Worked v (length g.centroids) 0 w.order w₁.order) c made.order;
@@ -88,18 +93,18 @@ module _ (s : State) (g : Asked) (room : ℕ) (l : Core) (w : Work) where
           found = subst (λ (v : Outcome). Worked v (length g.centroids) 0 w.found w₁.found) c made.found;
           bits = subst (λ (v : Outcome). Worked v 1040 0 w.bits w₁.bits) c made.bits;
         } in
-        zeroed_law s g room l w b st ne co w₁ turn (f ∙ ap Zeroed (sym e))
+        zeroed_law s g room l w x st ne co w₁ turn (f ∙ ap Zeroed (sym e ∙ d))
         (made.starts ∙ ap (λ (v : Outcome). left v (tabulate (start g.centroids g.goal.radius g.mirrors) (length g.centroids + 1)) 0 l.starts) c)
         (made.near ∙ ap (λ (v : Outcome). left v (near_of o) 0 l.near) c)
         (made.coef ∙ ap (λ (v : Outcome). left v (coef_of o) zero64 l.coef) c)
         h
 
-    pub rows_law : 0 < b → CoreOpened s g room l w (record { state = s; reply = Refused b }) (record { volumes = l.volumes; passive = l.passive; starts = st; near = ne; coef = co; design = l.design; density = l.density; last = l.last }) w₁
-    rows_law p = go b refl
+    pub rows_law : (x : Refusal) → b ≡ number_of_refusal x → CoreOpened s g room l w (record { state = s; reply = Refused x }) (record { volumes = l.volumes; passive = l.passive; starts = st; near = ne; coef = co; design = l.design; density = l.density; last = l.last }) w₁
+    rows_law x d = go (number_of_refusal x) (some_number x) d
       where
-        go : (k : ℕ) → b ≡ k → CoreOpened s g room l w (record { state = s; reply = Refused b }) (record { volumes = l.volumes; passive = l.passive; starts = st; near = ne; coef = co; design = l.design; density = l.density; last = l.last }) w₁
-        go zero e = absurd (omega (arith, p, e))
-        go (suc n) e = rows-by n e
+        go : (k : ℕ) → 0 < k → b ≡ k → CoreOpened s g room l w (record { state = s; reply = Refused x }) (record { volumes = l.volumes; passive = l.passive; starts = st; near = ne; coef = co; design = l.design; density = l.density; last = l.last }) w₁
+        go zero p e = absurd (omega (arith, p))
+        go (suc n) p e = rows-by x n d e
 
     -- the table is built
     module _ (zero-b : b ≡ 0) where
@@ -133,13 +138,6 @@ module _ (s : State) (g : Asked) (room : ℕ) (l : Core) (w : Work) where
           }
 
       -- in front of the last step: what is not too short
-      pub starts_fit : length l.volumes < length l.starts
-      unfolding open_short run_short
-      starts_fit =
-          let r = neither (run_short (elements o) g.goal.max_iterations o.lent) _ (passed o none).room in
-          let p : suc (length l.volumes) ≤ length l.starts = ltb-false _ _ (not_short _ _ _ _ r.0).0 in
-          omega (arith, p)
-
       pub design-fits : length l.passive ≤ length l.design
       unfolding open_short run_short
       design-fits =
@@ -162,10 +160,13 @@ module _ (s : State) (g : Asked) (room : ℕ) (l : Core) (w : Work) where
           ∙ get_or-append (starts_of o) _ 0 (length g.centroids) (omega (arith, length-tabulate (start g.centroids g.goal.radius g.mirrors) (length g.centroids + 1)))
           ∙ get_or-tabulate (start g.centroids g.goal.radius g.mirrors) (length g.centroids + 1) (length g.centroids) 0 (omega arith)
 
+      -- the lists with the table
+      abbrev built : Core
+      built = record { volumes = l.volumes; passive = l.passive; starts = st; near = ne; coef = co; design = l.design; density = l.density; last = l.last }
+
       -- the flag is set
-      shut : (r : Returned) (x q : List Float) (w₂ : Work) → g.flag ≡ true → ShutBy s l.design l.density w₁ r x q w₂
-          → CoreOpened s g room l w r (record { volumes = l.volumes; passive = l.passive; starts = st; near = ne; coef = co; design = x; density = q; last = l.last }) w₂
-      shut r x q w₂ t h =
+      shut : (r : Returned) (x : Core) (w₂ : Working) → g.flag ≡ true → ShutBy s built w₁ r x w₂ → CoreOpened s g room l w r x w₂
+      shut r x w₂ t h =
           let k = worked in
           let f : Left (length l.volumes) w w₂ Shut =
           record {
@@ -180,29 +181,24 @@ module _ (s : State) (g : Asked) (room : ℕ) (l : Core) (w : Work) where
           } in
           let e : entry_of o ≡ Shut = entry-last o none (sym b-is ∙ zero-b) ∙ ap (lastly o) t in
           let m = shut_law s g room l w (ended_of s) st ne co w₂ turn e refl starts_is near-is coef-is f in
-          subst (λ (z : List Float). CoreOpened s g room l w r (record { volumes = l.volumes; passive = l.passive; starts = st; near = ne; coef = co; design = z; density = q; last = l.last }) w₂) (sym h.design)
-          (subst (λ (z : List Float). CoreOpened s g room l w r (record { volumes = l.volumes; passive = l.passive; starts = st; near = ne; coef = co; design = l.design; density = z; last = l.last }) w₂) (sym h.density)
-          (subst (λ (z : Returned). CoreOpened s g room l w z (record { volumes = l.volumes; passive = l.passive; starts = st; near = ne; coef = co; design = l.design; density = l.density; last = l.last }) w₂) (sym h.returned) m))
+          subst (λ (z : Core). CoreOpened s g room l w r z w₂) (sym h.lists) (subst (λ (z : Returned). CoreOpened s g room l w z built w₂) (sym h.returned) m)
 
       -- it is not
-      begun : (r : Returned) (n : ℕ) (x q : List Float) (w₂ : Work) → g.flag ≡ false → n ≡ length (near_of o) → BegunBy g.goal n l.volumes l.passive l.design l.density w₁ r x q w₂
-          → CoreOpened s g room l w r (record { volumes = l.volumes; passive = l.passive; starts = st; near = ne; coef = co; design = x; density = q; last = l.last }) w₂
+      begun_law : (r : Returned) (x : Core) (w₂ : Working) → g.flag ≡ false → BegunBy g.goal built w₁ r x w₂ → CoreOpened s g room l w r x w₂
       unfolding overlay ones start_of
-      begun r n x q w₂ t c h =
+      begun_law r x w₂ t h =
           let e : entry_of o ≡ Opens = entry-last o none (sym b-is ∙ zero-b) ∙ ap (lastly o) t in
-          let f : Left (length l.volumes) w w₂ Opens = subst (λ (v : Work). Left (length l.volumes) w v Opens) (sym h.work) (subst (λ (k : ℕ). Left k w w₁ Opens) long worked) in
-          let d : x ≡ overlay (start_of o) l.design = h.design ∙ ap (λ (k : ℕ). start_of o ++ drop k l.design) (sym (length-start o)) in
-          let p : q ≡ overlay (ones (length l.volumes)) l.density = h.density ∙ overwrite-is (λ _. one64) (length l.volumes) l.density density-fits ∙ ap (λ (k : ℕ). ones (length l.volumes) ++ drop k l.density) (sym (length-tabulate (λ _. one64) (length l.volumes))) in
-          let m = opens_law s g room l w (opened_state g.goal (length l.volumes) n) st ne co x q w₂ turn e
-          (ap (opened_state g.goal (length l.volumes)) c) starts_is near-is coef-is d p f in
-          subst (λ (z : Returned). CoreOpened s g room l w z (record { volumes = l.volumes; passive = l.passive; starts = st; near = ne; coef = co; design = x; density = q; last = l.last }) w₂) (sym h.returned) m
+          let f : Left (length l.volumes) w w₂ Opens = subst (λ (v : Working). Left (length l.volumes) w v Opens) (sym h.work) (subst (λ (k : ℕ). Left k w w₁ Opens) long worked) in
+          let d = ap (λ (k : ℕ). start_of o ++ drop k l.design) (sym (length-start o)) in
+          let q = (λ i. sym (tabulate_throughout one64 (length l.volumes)) i ++ drop (length l.volumes) l.density) ∙ ap (λ (k : ℕ). ones (length l.volumes) ++ drop k l.density) (sym (length-tabulate (λ _. one64) (length l.volumes))) in
+          let n = entries-are (get_or st (length l.volumes) 0) refl in
+          let m = opens_law s g room l w (opened_state g.goal (length l.volumes) (get_or st (length l.volumes) 0)) st ne co (begun g.goal built).design (begun g.goal built).density w₂ turn e
+          (ap (opened_state g.goal (length l.volumes)) n) starts_is near-is coef-is d q f in
+          subst (λ (z : Core). CoreOpened s g room l w r z w₂) (sym h.lists) (subst (λ (z : Returned). CoreOpened s g room l w z (begun g.goal built) w₂) (sym h.returned) m)
 
-      pub last_law : (r : Returned) (e : ℕ) (x q : List Float) (w₂ : Work) → e ≡ get_or st (length l.volumes) 0
-          → Lastly g.flag s g.goal e l.volumes l.passive l.design l.density w₁ r x q w₂
-          → CoreOpened s g room l w r (record { volumes = l.volumes; passive = l.passive; starts = st; near = ne; coef = co; design = x; density = q; last = l.last }) w₂
-      last_law r e x q w₂ f h = go g.flag refl h
+      pub last_law : (r : Returned) (x : Core) (w₂ : Working) → Lastly g.flag s g.goal built w₁ r x w₂ → CoreOpened s g room l w r x w₂
+      last_law r x w₂ h = go g.flag refl h
         where
-          go : (t : Bool) → g.flag ≡ t → Lastly t s g.goal e l.volumes l.passive l.design l.density w₁ r x q w₂
-              → CoreOpened s g room l w r (record { volumes = l.volumes; passive = l.passive; starts = st; near = ne; coef = co; design = x; density = q; last = l.last }) w₂
-          go true t k = shut r x q w₂ t k
-          go false t k = begun r e x q w₂ t (entries-are e f) k
+          go : (t : Bool) → g.flag ≡ t → Lastly t s g.goal built w₁ r x w₂ → CoreOpened s g room l w r x w₂
+          go true t k = shut r x w₂ t k
+          go false t k = begun_law r x w₂ t k

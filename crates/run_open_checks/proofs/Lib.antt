@@ -1,4 +1,3 @@
--- `Chain`: the chain of refusals from its links. `Outcome`: the build of the filter after them. `Opens`: what each way out comes to.
-pub mod Chain
+-- `Outcome`: the build of the filter after the checks. `Opens`: what each way out comes to.
 pub mod Outcome
 pub mod Opens

@@ -12,10 +12,9 @@ use Rattle.lists.proofs.Laws.{neither}
 use Rattle.filter.specs.Build.{Lent, lengths_of, needed, count_tests, filter_tests, early, outcome}
 use Rattle.lent.specs.Lent.{zeroed, done, short}
 use Rattle.lent.proofs.Refusals.{none_due, both_pass}
-use Rattle.run_plain.specs.declared.Entry.TheVariants.{Kept, Zeroed}
 use Rattle.run_plain.specs.Lent.{open_work, run_short, open_short}
-use Rattle.run_plain.proofs.Checks.{checked}
-use Rattle.run_plain.specs.Opening.{Opening, elements, table_refusal, first_refusal, lastly, in_rows, at_first, entry_of}
+use Rattle.run_plain.proofs.Passes.{checked}
+use Rattle.run_plain.specs.Opening.{Opening, elements, table_refusal, first_refusal, lastly, in_rows, at_first, entry_of, Kept, Zeroed}
 
 module _ (o : Opening) where
   -- ---- what the opening comes to

@@ -1,3 +1,2 @@
--- `Asked` has an opening as the code is given it, `Opens` what its core returns and leaves.
-pub mod Asked
+-- `Opens` has what the core of an opening returns and leaves.
 pub mod Opens

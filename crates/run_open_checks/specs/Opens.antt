@@ -1,32 +1,16 @@
 -- What the core of an opening returns and leaves, read as what `run_plain`'s contract of an opening states. Definitions only.
-use Rattle.std.specs.Prelude.{◌≡◌, List, [], ◌∷◌, ℕ, suc, length, Float}
+use Rattle.std.specs.Prelude.{◌≡◌, List, [], ◌∷◌, ℕ, suc, length}
 use Rattle.lists.specs.Lists.{choose, zero64}
 use Rattle.topo.specs.declared.Iteration.{Iteration}
 use Rattle.lent.specs.Lent.{Outcome, kept, zeroed, done, Worked}
-use Rattle.filter.specs.Build.{words}
+use Rattle.filter.specs.Build.{words, Working, work_lengths}
 use Rattle.run_plain.specs.declared.State.{State}
-use Rattle.run_plain.specs.declared.Entry.{Entry}
-use Rattle.run_plain.specs.declared.Entry.TheVariants.{Kept, Zeroed, Shut, Opens}
-use Rattle.run_plain.specs.Opening.{Opening, entry_of}
-use Rattle.run_plain.specs.Calls.{Core, Asked, Result, lists_of, sizes_in, open_of, in_turn}
+use Rattle.run_plain.specs.Opening.{Opening, entry_of, Entry, Kept, Zeroed, Shut, Opens}
+use Rattle.run_plain.specs.Calls.{Core, Asked, Result, replied, lists_of, sizes_in, open_of, in_turn}
 use Rattle.run_plain.specs.declared.Returned.{Returned}
 
--- the working lists: the filter's
-pub record Work : Type 0 where
-  pub cell : List (List ℕ)
-  pub order : List ℕ
-  pub first : List ℕ
-  pub sorted : List (List Float)
-  pub stamp : List ℕ
-  pub weight : List Float
-  pub found : List ℕ
-  pub bits : List ℕ
-
-abbrev pub lengths_of : Work → List ℕ
-lengths_of w = length w.cell ∷ length w.order ∷ length w.first ∷ length w.sorted ∷ length w.stamp ∷ length w.weight ∷ length w.found ∷ length w.bits ∷ []
-
 -- the opening, the history having room for so many records
-abbrev pub opening_in : Asked → ℕ → Core → Work → Opening
+abbrev pub opening_in : Asked → ℕ → Core → Working → Opening
 opening_in g room l w =
     record {
       volumes = l.volumes;
@@ -35,11 +19,11 @@ opening_in g room l w =
       mirrors = g.mirrors;
       goal = g.goal;
       flag = g.flag;
-      lent = sizes_in (lengths_of w) l room;
+      lent = sizes_in (work_lengths w) l room;
     }
 
 -- what it comes to: 20 where it is out of turn
-abbrev pub entry_in : State → Asked → ℕ → Core → Work → Entry
+abbrev pub entry_in : State → Asked → ℕ → Core → Working → Entry
 entry_in s g room l w = choose (in_turn s.phase) (entry_of (opening_in g room l w)) (Kept 20)
 
 -- "Last it looks at the flag: 15 then leaves the finished filter in its lists and the working lists zero."
@@ -50,7 +34,7 @@ outcome_of Shut = zeroed 15
 outcome_of Opens = done
 
 -- what is left in each working list
-pub record Left (n : ℕ) (w w' : Work) (v : Entry) : Type 0 where
+pub record Left (n : ℕ) (w w' : Working) (v : Entry) : Type 0 where
   pub cell : Worked (outcome_of v) n (0 ∷ 0 ∷ 0 ∷ []) w.cell w'.cell
   pub order : Worked (outcome_of v) n 0 w.order w'.order
   pub first : Worked (outcome_of v) (suc n) 0 w.first w'.first
@@ -61,6 +45,6 @@ pub record Left (n : ℕ) (w w' : Work) (v : Entry) : Type 0 where
   pub bits : Worked (outcome_of v) words 0 w.bits w'.bits
 
 -- for every history of `room` records, which an opening leaves as it is: what the core returns and leaves is what an opening does
-pub record CoreOpened (s : State) (g : Asked) (room : ℕ) (l : Core) (w : Work) (r : Returned) (o : Core) (w' : Work) : Type 0 where
-  pub same : (h : List Iteration) → length h ≡ room → ◌≡◌ {A = Result} (record { state = r.state; reply = r.reply; lists = lists_of o h }) (open_of s g (lengths_of w) (lists_of l h))
+pub record CoreOpened (s : State) (g : Asked) (room : ℕ) (l : Core) (w : Working) (r : Returned) (o : Core) (w' : Working) : Type 0 where
+  pub same : (h : List Iteration) → length h ≡ room → ◌≡◌ {A = Result} (record { state = r.state; reply = replied r.reply; lists = lists_of o h }) (open_of s g (work_lengths w) (lists_of l h))
   pub work : Left (length l.volumes) w w' (entry_in s g room l w)

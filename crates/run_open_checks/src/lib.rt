@@ -1,18 +1,23 @@
-// What an opening is refused with before the filter is built, in 01's order.
+// What an opening is refused with before the filter is built, in 01's order; and what it begins with.
 #![tactic(auto)]
 
-ghost use Rattle.std.specs.Prelude.{◌≡◌, [], ◌∷◌, ◌++◌, ◌≤◌, ◌<◌, length, drop};
-ghost use Rattle.lists.specs.Lists.{overwrite};
+ghost use Rattle.std.specs.Prelude.{◌≡◌, ◌++◌, ◌≤◌, length, drop, replicate};
 ghost use Rattle.ieee.specs.Basic.{one64};
+ghost use Rattle.refusal.specs.Refusals.{refused};
+ghost use Rattle.filter.specs.Build.{work_lengths};
+ghost use Rattle.filter.specs.Held.{working};
 ghost use Rattle.oc_start.specs.Start.{solid_volume, start_design};
 ghost use Rattle.oc_goal.specs.Goal.{target_of, start_density};
 ghost use Rattle.run_plain.specs.Lent.{open_short};
 ghost use Rattle.run_plain.specs.Formulas.{sum_of};
 ghost use Rattle.run_plain.specs.Opening.{fraction_bad, first_refusal};
-ghost use Rattle.run_plain.specs.Calls.{opened_state};
-ghost use Rattle.run_open_checks.specs.Asked.{opening};
+ghost use Rattle.run_plain.specs.Calls.{opened_state, sizes_in};
+ghost use Rattle.run_plain.specs.Held.{asked, opened};
+ghost use Rattle.run_open_checks.specs.Opens.{opening_in};
 
-use run_plain::{Compliances, Phase, Progress, Setting, State};
+use filter::work::{TableMut, Work};
+use refusal::Refusal;
+use run_plain::{Compliances, Job, OpenFields, Phase, Progress, Setting, State};
 use topo::Goal;
 
 fn fraction_bad(f: f64) -> bool
@@ -21,164 +26,102 @@ fn fraction_bad(f: f64) -> bool
     !((f > 0.0) & (f < 1.0))
 }
 
-fn too_short(
-    elements: usize,
-    rounds: usize,
-    volumes: usize,
-    passive: usize,
-    starts: usize,
-    near: usize,
-    coef: usize,
-    design: usize,
-    density: usize,
-    last: usize,
-    history: usize,
-    cell: usize,
-    order: usize,
-    first: usize,
-    sorted: usize,
-    stamp: usize,
-    weight: usize,
-    found: usize,
-    bits: usize,
-) -> bool
-    requires { elements < 65536 }
-    ensures { result ≡ open_short elements rounds (record {
-      volumes = volumes;
-      passive = passive;
-      starts = starts;
-      near = near;
-      coef = coef;
-      design = design;
-      density = density;
-      last = last;
-      history = history;
-      work = cell ∷ order ∷ first ∷ sorted ∷ stamp ∷ weight ∷ found ∷ bits ∷ [];
-    }) }
+// Whether a list is lent too short, `room` the records that the history has room for.
+#[tactic(auto, unfolding(run_plain::specs::Lent::open_short, run_plain::specs::Lent::run_short, lent::specs::Lent::short))]
+fn too_short(job: Job, table: &TableMut, fields: &OpenFields, room: usize, work: &Work) -> bool
+    ensures { result ≡ open_short (length job.entry.volumes.now) job.entry.goal.max_iterations (sizes_in (work_lengths (working work.now)) (opened job.entry table.now fields.now) room) }
 {
-    ((starts < elements + 1)
-        | ((design < elements)
-            | ((density < elements) | ((last < elements) | ((history < rounds) | false)))))
-        | ((cell < elements)
-            | ((order < elements)
-                | ((first < elements + 1)
-                    | ((sorted < elements)
-                        | ((stamp < elements)
-                            | ((weight < elements)
-                                | ((found < elements) | ((bits < 1040) | false))))))))
+    let n = job.volumes.len();
+    (table.starts.len() <= n)
+        | (fields.design.len() < n)
+        | (fields.density.len() < n)
+        | (fields.last.len() < n)
+        | (room < job.goal.max_iterations)
+        | work.is_short(n)
 }
 
-// 0 where nothing is refused. `near` and `coef` are looked at row by row, and the flag last.
-pub fn refusal(
-    goal: Goal,
-    flag: bool,
-    volumes: &[f64],
-    centroids: &[[f64; 3]],
-    passive: &[bool],
-    mirrors: &[[f64; 6]],
-    starts: usize,
-    near: usize,
-    coef: usize,
-    design: usize,
-    density: usize,
-    last: usize,
-    history: usize,
-    cell: usize,
-    order: usize,
-    first: usize,
-    sorted: usize,
-    stamp: usize,
-    weight: usize,
-    found: usize,
-    bits: usize,
-) -> u32
-    ensures { result ≡ first_refusal (opening goal flag volumes.now centroids.now passive.now mirrors.now
-        starts near coef design density last history (cell ∷ order ∷ first ∷ sorted ∷ stamp ∷ weight ∷ found ∷ bits ∷ [])) }
+// The table's `near` and `coef` are looked at row by row, and the flag last.
+#[tactic(auto, unfolding(run_plain::specs::Opening::first_refusal, run_plain::specs::Formulas::sum_of, lists::specs::Lists::choose))]
+pub fn check(
+    job: Job,
+    table: &TableMut,
+    fields: &OpenFields,
+    room: usize,
+    work: &Work,
+) -> Result<(), Refusal>
+    ensures { refused result ≡ first_refusal (opening_in (asked job.entry) room (opened job.entry table.now fields.now) (working work.now)) }
 {
-    let n = volumes.len();
-    let differ = (centroids.len() != n) | (passive.len() != n);
-    if differ {
-        return 1;
+    let n = job.volumes.len();
+    if (job.centroids.len() != n) | (job.passive.len() != n) {
+        return Err(Refusal::CountsDiffer);
     }
-    let none = n == 0;
-    if none {
-        return 2;
+    if n == 0 {
+        return Err(Refusal::NoElements);
     }
-    let many = 65535 < n;
-    if many {
-        return 3;
+    if 65535 < n {
+        return Err(Refusal::TooMany);
     }
-    let total = lists::sum(volumes);
-    let solid = oc_start::solid_volume(volumes, passive);
-    let target = oc_goal::target(goal.fraction, total);
-    let short = too_short(
-        n,
-        goal.max_iterations,
-        n,
-        passive.len(),
-        starts,
-        near,
-        coef,
-        design,
-        density,
-        last,
-        history,
-        cell,
-        order,
-        first,
-        sorted,
-        stamp,
-        weight,
-        found,
-        bits,
-    );
-    let rest = lists::first(short, 14, 0);
-    let rest = filter_group::refusal(mirrors, rest);
-    let rest = lists::first(lent::points_bad(centroids), 9, rest);
-    let rest = lists::first(lent::radius_bad(goal.radius), 8, rest);
-    let rest = lists::first(oc_goal::no_room(solid, total, target), 7, rest);
-    let rest = lists::first(goal.max_iterations == 0, 6, rest);
-    let rest = lists::first(fraction_bad(goal.fraction), 5, rest);
-    lists::first(lent::volumes_bad(volumes), 4, rest)
+    if lent::volumes_bad(job.volumes) {
+        return Err(Refusal::VolumeOutside);
+    }
+    if fraction_bad(job.goal.fraction) {
+        return Err(Refusal::ShareOutside);
+    }
+    if job.goal.max_iterations == 0 {
+        return Err(Refusal::NoRounds);
+    }
+    let total = lists::sum(job.volumes);
+    let solid = oc_start::solid_volume(job.volumes, job.passive);
+    if oc_goal::no_room(solid, total, oc_goal::target(job.goal.fraction, total)) {
+        return Err(Refusal::NoRoom);
+    }
+    if lent::radius_bad(job.goal.radius) {
+        return Err(Refusal::DistanceOutside);
+    }
+    if lent::points_bad(job.centroids) {
+        return Err(Refusal::PointOutside);
+    }
+    filter_group::check(job.mirrors)?;
+    if too_short(job, table, fields, room, work) {
+        return Err(Refusal::ListTooShort);
+    }
+    Ok(())
 }
 
 // The solid question's densities, 1 for each of n elements.
 pub fn ask_solid(n: usize, density: &mut [f64])
     requires { n ≤ length density.old }
-    ensures { density.new ≡ overwrite (λ _. one64) n density.old }
+    ensures { density.new ≡ replicate n one64 ++ drop n density.old }
 {
-    let mut i = 0usize;
-    while i < n {
-        density[i] = 1.0;
-        i += 1usize;
-    }
+    density[..n].fill(1.0);
 }
 
 // The first design, on the needed places.
-pub fn begin(goal: Goal, volumes: &[f64], passive: &[bool], design: &mut [f64])
-    requires { length passive.now ≤ length design.old }
-    ensures { design.new ≡ start_design passive.now (start_density (solid_volume volumes.now passive.now) (sum_of volumes.now) (target_of goal.fraction (sum_of volumes.now))) ++ drop (length passive.now) design.old }
+#[tactic(auto, unfolding(run_plain::specs::Formulas::sum_of))]
+pub fn begin(job: Job, design: &mut [f64])
+    requires { length job.passive.now ≤ length design.old }
+    ensures { let total = sum_of job.entry.volumes.now in let passive = job.entry.passive.now in
+        design.new ≡ start_design passive (start_density (solid_volume job.entry.volumes.now passive) total (target_of job.entry.goal.fraction total)) ++ drop (length passive) design.old }
 {
-    let n = passive.len();
-    let total = lists::sum(volumes);
-    let solid = oc_start::solid_volume(volumes, passive);
-    let target = oc_goal::target(goal.fraction, total);
+    let n = job.passive.len();
+    let total = lists::sum(job.volumes);
+    let solid = oc_start::solid_volume(job.volumes, job.passive);
+    let target = oc_goal::target(job.goal.fraction, total);
     let start = oc_goal::start_density(solid, total, target);
-    oc_start::start_design(passive, start, &mut design[..n]);
+    oc_start::start_design(job.passive, start, &mut design[..n]);
 }
 
 // The state of a run that is opened: it asks for the solid part.
 pub fn opened_state(goal: Goal, elements: usize, entries: usize) -> State
     ensures { result ≡ opened_state goal elements entries }
 {
-    let sharpen = goal.sharpen;
     State {
         phase: Phase::Solid,
         setting: Setting {
             elements,
             entries,
             fraction: goal.fraction,
-            sharpen,
+            sharpen: goal.sharpen,
             max_iterations: goal.max_iterations,
         },
         progress: Progress {

@@ -1,60 +1,49 @@
 // The turn of an opening, and its last step.
 #![tactic(auto)]
 
-ghost use Rattle.std.specs.Prelude.{◌≡◌, ◌≤◌, length};
+ghost use Rattle.std.specs.Prelude.{◌≡◌, ◌<◌, ◌≤◌, length};
+ghost use Rattle.filter.specs.Held.{working, SameWork};
 ghost use Rattle.run_plain.specs.Calls.{in_turn};
+ghost use Rattle.run_plain.specs.Held.{opened, SameOpenFields};
 ghost use Rattle.run_open_last.specs.Steps.{Lastly};
 
-use run_plain::{Phase, Reply, Returned, State};
-use topo::Goal;
+use filter::work::{TableMut, Work};
+use refusal::Refusal;
+use run_plain::{Job, OpenFields, Phase, Reply, Returned, State};
 
 // Whether no run is open.
 pub fn in_turn(p: Phase) -> bool
     ensures { result ≡ in_turn p }
 {
-    match p {
-        Phase::Idle => true,
-        Phase::Solid => false,
-        Phase::Round => false,
-    }
+    matches!(p, Phase::Idle)
 }
 
-// The table is built, with so many entries: "Last it looks at the flag".
+// The table is built: "Last it looks at the flag".
 pub fn lastly(
     state: State,
-    goal: Goal,
-    flag: bool,
-    entries: usize,
-    volumes: &[f64],
-    passive: &[bool],
-    design: &mut [f64],
-    density: &mut [f64],
-    cell: &mut [[u64; 3]],
-    order: &mut [u32],
-    first: &mut [u32],
-    sorted: &mut [[f64; 3]],
-    stamp: &mut [u32],
-    weight: &mut [f64],
-    found: &mut [u32],
-    bits: &mut [u64],
+    job: Job,
+    table: &TableMut,
+    fields: &mut OpenFields,
+    work: &mut Work,
 ) -> Returned
-    requires { (length volumes.now ≤ length density.old) × (length passive.now ≤ length design.old) }
-    ensures { Lastly flag state goal entries volumes.now passive.now design.old density.old
-        (record { cell = cell.old; order = order.old; first = first.old; sorted = sorted.old; stamp = stamp.old; weight = weight.old; found = found.old; bits = bits.old })
-        result design.new density.new
-        (record { cell = cell.new; order = order.new; first = first.new; sorted = sorted.new; stamp = stamp.new; weight = weight.new; found = found.new; bits = bits.new }) }
+    requires { (length job.volumes.now ≤ length fields.old.density.now) × (length job.passive.now ≤ length fields.old.design.now) }
+    ensures last { Lastly job.entry.flag state job.entry.goal (opened job.entry table.now fields.old) (working work.old) result (opened job.entry table.now fields.new) (working work.new) }
+    ensures same_fields { SameOpenFields fields.old fields.new }
+    ensures same_work { SameWork work.old work.new }
 {
-    if flag {
-        filter_wipe::wipe_work(cell, order, first, sorted, stamp, weight, found, bits);
+    if job.flag {
+        filter_wipe::wipe_work(work);
         return Returned {
-            state: run_plain::ended(state),
-            reply: Reply::Refused(15),
+            state: state.ended(),
+            reply: Reply::Refused(Refusal::Stopped),
         };
     }
-    run_open_checks::begin(goal, volumes, passive, design);
-    run_open_checks::ask_solid(volumes.len(), density);
+    let n = job.volumes.len();
+    run_open_checks::begin(job, fields.design);
+    run_open_checks::ask_solid(n, fields.density);
+    let entries = table.starts.get(n).copied().unwrap_or(0);
     Returned {
-        state: run_open_checks::opened_state(goal, volumes.len(), entries),
+        state: run_open_checks::opened_state(job.goal, n, entries as usize),
         reply: Reply::Solid,
     }
 }

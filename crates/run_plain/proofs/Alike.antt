@@ -20,7 +20,8 @@ use Rattle.run_plain.specs.declared.State.{State}
 use Rattle.run_plain.specs.Lent.{Sizes, answer_short}
 use Rattle.run_plain.specs.Formulas.{Steep, update_at, record_at, not_finite, idle, small}
 use Rattle.run_plain.specs.Opening.{elements, near_of, case_of}
-use Rattle.run_plain.specs.Plain.{Part, nothing, solid, round, Row, in_order, Checks, stage_of, sharpest, steady_run, Run, Step, ended, asked_of, updated, stops_of, checks_of}
+use Rattle.run_plain.specs.declared.Checks.{Checks}
+use Rattle.run_plain.specs.Plain.{Part, nothing, solid, round, Row, in_order, stage_of, sharpest, steady_run, Run, Step, ended, asked_of, updated, stops_of, checks_of}
 use Rattle.run_plain.specs.Calls.{ended_of, Lists, Arguments, Result, sizes_of, steep_at, in_range, sound_in, sound, part_in, part_of, case_from, checks_at, design_in, density_in, update_in, record_in, steady_at, stops_at, written_lists, lend, give_back, Call, out_of, fed}
 use Rattle.run_plain.proofs.Parts.{take_part, overlay-part, Enough, enough}
 use Rattle.run_plain.proofs.Formulas.{Ready}

@@ -1,4 +1,6 @@
 -- "at most 20 rounds at each steepness below 16", of the rounds begun: a round is begun only where fewer than 20 stand at its steepness; and with full stages each round begun is at the steepness of its number. By induction on the answers. Assumes nothing.
+use Rattle.topo.specs.declared.Stop.{Stop}
+use Rattle.std.specs.Prelude.{Option, Some, None}
 use mathlib.Core.Path.{◌≡◌, refl, sym, ap, ◌∙◌, subst}
 use mathlib.Core.Bool.{Bool, true, false}
 use mathlib.Core.List.{List, [], ◌∷◌, ◌++◌}
@@ -9,11 +11,8 @@ use Rattle.lists.specs.Lists.{choose}
 use Rattle.topo.specs.declared.Sharpening.TheVariants.{Full}
 use Rattle.run_plain.specs.declared.Verdict.{Verdict}
 use Rattle.run_plain.specs.declared.Verdict.TheVariants.{Kept, Over, Halts, Begins, Solves}
-use Rattle.run_plain.specs.declared.Course.{Course}
-use Rattle.run_plain.specs.declared.Course.TheVariants.{Onward, Ends}
-use Rattle.run_plain.specs.declared.Entry.TheVariants.{Opens}
 use Rattle.run_plain.specs.Formulas.{Steep, record_at}
-use Rattle.run_plain.specs.Opening.{Opening, entry_of, case_of}
+use Rattle.run_plain.specs.Opening.{Opening, entry_of, case_of, Opens}
 use Rattle.run_plain.specs.Plain.{Answer, Part, nothing, solid, round, Row, judged, first_stop, same, sharpest, count_at, Run, plain_start, asked_of, updated, stops_of, onward, checks_of, after, answered}
 use Rattle.run_plain.specs.Runs.{begun_by, rounds_begun, times, full_steep, FullFrom}
 use Rattle.run_plain.proofs.Formulas.{ready}
@@ -66,12 +65,12 @@ plus_none : (c : ℕ) → c ≡ 0 + c
 plus_none c = omega arith
 
 -- an answer more: as many more as it begins
-begun-onward : (d : Steep) (r : Run) (a : Answer) (c : ℕ) → c ≤ 20 → c ≡ one d r.steep + count_at d r.rows → (v : Course)
+begun-onward : (d : Steep) (r : Run) (a : Answer) (c : ℕ) → c ≤ 20 → c ≡ one d r.steep + count_at d r.rows → (v : Option Stop)
     → Begun d (onward (updated r a.energies) v).run.part (onward (updated r a.energies) v).run (times d (begun_by (onward (updated r a.energies) v).out (onward (updated r a.energies) v).run.steep) + c)
 unfolding times
-begun-onward d r a c l e (Ends why) = subst (λ (x : ℕ). x ≤ 20) (plus_none c) l
-begun-onward d r a c l e Onward =
-    let h = times_more d (onward (updated r a.energies) Onward).run.steep [] in
+begun-onward d r a c l e (Some why) = subst (λ (x : ℕ). x ≤ 20) (plus_none c) l
+begun-onward d r a c l e None =
+    let h = times_more d (onward (updated r a.energies) None).run.steep [] in
     let q = count-more d (record { steep = r.steep; entry = record_at (case_of r.given) r.steep r.design (asked_of r) a.energies (suc (length r.rows)) }) r.rows in
     omega (arith, h, q, e)
 
@@ -126,15 +125,15 @@ coming-none nothing l e = e
 coming-none solid l e = subst (FullFrom 1) (sym e) tt
 coming-none (round n) l e = subst (FullFrom (suc n)) (sym e) tt
 
-coming-onward : (r : Run) (a : Answer) (n : ℕ) → Keeps r → r.part ≡ round n → (v : Course) → Keeps (onward (updated r a.energies) v).run → r.given.goal.sharpen ≡ Full → (l : List Steep)
+coming-onward : (r : Run) (a : Answer) (n : ℕ) → Keeps r → r.part ≡ round n → (v : Option Stop) → Keeps (onward (updated r a.energies) v).run → r.given.goal.sharpen ≡ Full → (l : List Steep)
     → Coming (onward (updated r a.energies) v).run.part l
     → Coming r.part (begun_by (onward (updated r a.energies) v).out (onward (updated r a.energies) v).run.steep ++ l)
 unfolding FullFrom
-coming-onward r a n k p (Ends why) k' e l h = coming-none r.part l h
-coming-onward r a n k p Onward k' e l h =
+coming-onward r a n k p (Some why) k' e l h = coming-none r.part l h
+coming-onward r a n k p None k' e l h =
     let q : r.part ≡ round (suc (length r.rows)) = p ∙ ap round (subst (λ (x : Part). Here x r) p k.here).0 in
-    let s : (onward (updated r a.energies) Onward).run.steep ≡ full_steep (suc (suc (length r.rows))) = full_at _ _ _ k'.full k'.here.2 e in
-    subst (λ (x : Part). Coming x ((onward (updated r a.energies) Onward).run.steep ∷ l)) (sym q) (s, h)
+    let s : (onward (updated r a.energies) None).run.steep ≡ full_steep (suc (suc (length r.rows))) = full_at _ _ _ k'.full k'.here.2 e in
+    subst (λ (x : Part). Coming x ((onward (updated r a.energies) None).run.steep ∷ l)) (sym q) (s, h)
 
 coming-after : (r : Run) (a : Answer) → Keeps r → (v : Verdict) → Told-of v r.part (checks_of r a) → r.given.goal.sharpen ≡ Full → (l : List Steep) → Coming (after r a v).run.part l
     → Coming r.part (begun_by (after r a v).out (after r a v).run.steep ++ l)

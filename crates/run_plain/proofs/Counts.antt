@@ -1,4 +1,5 @@
 -- The counts that a state keeps are those that the plain run reads off its records: by cases on how a round moves the steepness. Assumes nothing.
+use Rattle.std.specs.Prelude.{Option, Some, None}
 use mathlib.Core.Path.{◌≡◌, refl, sym, ap, ◌∙◌}
 use mathlib.Core.Bool.{Bool, true, false, ◌&&◌, ◌||◌}
 use mathlib.Core.List.{List, ◌∷◌}
@@ -13,8 +14,6 @@ use Rattle.topo.specs.declared.Sharpening.{Sharpening}
 use Rattle.topo.specs.declared.Sharpening.TheVariants.{Off, Early, Full}
 use Rattle.topo.specs.declared.Stop.{Stop}
 use Rattle.topo.specs.Stages.{early}
-use Rattle.run_plain.specs.declared.Course.{Course}
-use Rattle.run_plain.specs.declared.Course.TheVariants.{Onward, Ends}
 use Rattle.run_plain.specs.declared.State.{State}
 use Rattle.run_plain.specs.Formulas.{Steep, s1, s2, s4, s8, s16, small}
 use Rattle.run_plain.specs.Plain.{Row, next, stage_of, same, sharpest, count_at, level_with, steady_run, newest_change, due_steep, Stops, first_stop}
@@ -119,10 +118,10 @@ unfolding steady_at steady_run
 steady-on sharpen b e rows s h r = rw (r.before e.compliance, steep-at s b r.stage, r.steady, h)
 
 -- ---- no stop applies
-not-ends : (why : Stop) → Ends why ≡ Onward → ⊥
+not-ends : (why : Stop) → Some why ≡ None → ⊥
 not-ends why e = let z : ◌≡◌ {A = ℕ} 0 1 = cc in omega arith
 
-choose-onward : (t : Bool) (why : Stop) (rest : Course) → choose t (Ends why) rest ≡ Onward → (t ≡ false) × (rest ≡ Onward)
+choose-onward : (t : Bool) (why : Stop) (rest : Option Stop) → choose t (Some why) rest ≡ None → (t ≡ false) × (rest ≡ None)
 unfolding choose
 choose-onward true why rest e = absurd (not-ends why e)
 choose-onward false why rest e = (refl, e)
@@ -134,7 +133,7 @@ pub record GoesOn (t : Stops) : Type 0 where
   pub budget : t.budget ≡ false
   pub flag : t.flag ≡ false
 
-pub goes_on : (t : Stops) → first_stop t ≡ Onward → GoesOn t
+pub goes_on : (t : Stops) → first_stop t ≡ None → GoesOn t
 unfolding first_stop
 goes_on t e =
     let p1 = choose-onward _ _ _ e in

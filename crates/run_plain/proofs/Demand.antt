@@ -6,7 +6,8 @@ use Prim.Native.Nat.{ℕ}
 use Rattle.lists.specs.Lists.{choose}
 use Rattle.run_plain.specs.declared.State.{State}
 use Rattle.run_plain.specs.Lent.{Sizes, answer_short}
-use Rattle.run_plain.specs.Plain.{Part, nothing, solid, round, Checks, judged}
+use Rattle.run_plain.specs.declared.Checks.{Checks}
+use Rattle.run_plain.specs.Plain.{Part, nothing, solid, round, judged}
 use Rattle.run_plain.specs.Runs.{recorded_in}
 use Rattle.run_plain.specs.Calls.{Lists, Arguments, sizes_of, part_of, checks_at, answer_by, answer_of, Asked, World, Call, NoRun}
 use Rattle.run_plain.specs.Demand.{OpenedRun, AnyPart, Demand}

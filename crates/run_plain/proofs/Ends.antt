@@ -3,11 +3,10 @@
 use mathlib.Core.Path.{◌≡◌, sym, ap, ◌∙◌, subst}
 use mathlib.Core.List.{List, map}
 use Rattle.lists.specs.Lists.{choose}
-use Rattle.run_plain.specs.declared.Entry.TheVariants.{Opens}
 use Rattle.run_plain.specs.declared.Phase.{Phase}
 use Rattle.run_plain.specs.declared.State.{State}
 use Rattle.run_plain.specs.Lent.{Sizes}
-use Rattle.run_plain.specs.Opening.{entry_of}
+use Rattle.run_plain.specs.Opening.{entry_of, Opens}
 use Rattle.run_plain.specs.Plain.{nothing, Run, answered, plain_start, run_from}
 use Rattle.run_plain.specs.Runs.{Ended}
 use Rattle.run_plain.specs.Calls.{Asked, Lists, World, Call, part_in, part_of, opening_of, lend, result_of, world_after, fed, NoRun, world_open, world_from}

@@ -15,10 +15,9 @@ use Rattle.filter.specs.Filter.{joined, columns, neighbours, coefficients, coeff
 use Rattle.filter.specs.Build.{too_big, too_short, row_refusal, rows_refusal}
 use Rattle.oc_start.specs.Start.{start_design}
 use Rattle.oc_seen.specs.Seen.{seen_density, densities}
-use Rattle.run_plain.specs.declared.Entry.TheVariants.{Opens}
 use Rattle.run_plain.specs.Formulas.{Steep, Case, ones, see, given_at, update_at}
-use Rattle.run_plain.specs.Opening.{Opening, elements, starts_of, near_of, coef_of, table_refusal, first_refusal, in_rows, at_first, entry_of, start_of}
-use Rattle.run_plain.proofs.Checks.{checked}
+use Rattle.run_plain.specs.Opening.{Opening, elements, starts_of, near_of, coef_of, table_refusal, first_refusal, in_rows, at_first, entry_of, start_of, Opens}
+use Rattle.run_plain.proofs.Passes.{checked}
 use Rattle.run_plain.proofs.Parts.{Room, open-room}
 use Rattle.update_rates.proofs.Bounds.{length-updated}
 use Rattle.update_rates.proofs.Passes.{passes-at-most}

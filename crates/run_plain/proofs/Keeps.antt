@@ -1,4 +1,6 @@
 -- What every plain run keeps to: rounds allowed, rounds at each steepness, passes, and 16 from round 81 on. By what each answer keeps. Assumes nothing.
+use Rattle.topo.specs.declared.Stop.{Stop}
+use Rattle.std.specs.Prelude.{Option, Some, None}
 use mathlib.Core.Path.{◌≡◌, refl, sym, ap, ◌∙◌, subst}
 use mathlib.Core.Bool.{Bool, true, false}
 use mathlib.Core.List.{List, [], ◌∷◌}
@@ -15,8 +17,6 @@ use Rattle.topo.specs.Stages.{sharpens}
 use Rattle.oc_record.specs.Record.{compliance_of}
 use Rattle.run_plain.specs.declared.Verdict.{Verdict}
 use Rattle.run_plain.specs.declared.Verdict.TheVariants.{Kept, Over, Halts, Begins, Solves}
-use Rattle.run_plain.specs.declared.Course.{Course}
-use Rattle.run_plain.specs.declared.Course.TheVariants.{Onward, Ends}
 use Rattle.run_plain.specs.Formulas.{Steep, s1, s2, s4, s8, s16, sharpness, record_at}
 use Rattle.run_plain.specs.Opening.{Opening, case_of}
 use Rattle.run_plain.specs.Plain.{Answer, Part, nothing, solid, round, Row, judged, first_stop, next, stage_of, same, sharpest, count_at, due_steep, Run, ended, plain_start, asked_of, asking, with_work, updated, stops_of, onward, checks_of, after, answered}
@@ -144,11 +144,11 @@ recorded r energies n k p =
       sound = (passes-few r energies, late-at r.given.goal.sharpen r.steep r.rows k.climbs k.below h.2, number_is r energies, sharpness-is r energies, full_at r.given.goal.sharpen r.steep r.rows k.full h.2, k.sound);
     }
 
-keeps-onward : (r : Run) (a : Answer) (n : ℕ) → Keeps r → r.part ≡ round n → (v : Course) → first_stop (stops_of (updated r a.energies) a) ≡ v → Keeps (onward (updated r a.energies) v).run
-keeps-onward r a n k p (Ends why) e =
+keeps-onward : (r : Run) (a : Answer) (n : ℕ) → Keeps r → r.part ≡ round n → (v : Option Stop) → first_stop (stops_of (updated r a.energies) a) ≡ v → Keeps (onward (updated r a.energies) v).run
+keeps-onward r a n k p (Some why) e =
     let d : Recorded r a.energies = recorded r a.energies n k p in
     record { rounds = d.rounds; most = d.most; climbs = climbs-same r.steep (record_of r a.energies) r.rows k.climbs; below = d.below; sound = d.sound; full = λ h. staged-more r.steep (record_of r a.energies) r.rows (k.full h); here = tt }
-keeps-onward r a n k p Onward e =
+keeps-onward r a n k p None e =
     let d : Recorded r a.energies = recorded r a.energies n k p in
     let f = r.given.goal.sharpen in
     let rows' = row_of r.steep (record_of r a.energies) ∷ r.rows in

@@ -1,5 +1,5 @@
--- `Checks`: what an opening's tests see to. `Parts`: lists that are lent in part. `Formulas`: lengths and counts of what the formulas make. `Full`: full stages.
-pub mod Checks
+-- `Passes`: what an opening's tests see to. `Parts`: lists that are lent in part. `Formulas`: lengths and counts of what the formulas make. `Full`: full stages.
+pub mod Passes
 pub mod Parts
 pub mod Formulas
 pub mod Counts

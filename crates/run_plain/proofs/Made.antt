@@ -1,4 +1,6 @@
 -- "makes just the reckonings in its records": as many kept volumes are evaluated as the records tell. Assumes nothing.
+use Rattle.topo.specs.declared.Stop.{Stop}
+use Rattle.std.specs.Prelude.{Option, Some, None}
 use mathlib.Core.Path.{◌≡◌, sym, ap, ◌∙◌}
 use mathlib.Core.List.{List, [], ◌∷◌, ◌++◌}
 use Prim.Native.Nat.{ℕ, suc, ◌+◌}
@@ -8,8 +10,6 @@ use Rattle.topo.specs.declared.Iteration.{Iteration}
 use Rattle.update_rates.proofs.Tried.{passes-reckoned}
 use Rattle.run_plain.specs.declared.Verdict.{Verdict}
 use Rattle.run_plain.specs.declared.Verdict.TheVariants.{Kept, Over, Halts, Begins, Solves}
-use Rattle.run_plain.specs.declared.Course.{Course}
-use Rattle.run_plain.specs.declared.Course.TheVariants.{Onward, Ends}
 use Rattle.run_plain.specs.Formulas.{given_at, update_at, record_at}
 use Rattle.run_plain.specs.Opening.{Opening, case_of}
 use Rattle.run_plain.specs.Plain.{Answer, in_order, judged, first_stop, Run, plain_start, asked_of, updated, stops_of, onward, checks_of, after, answered, run_from}
@@ -38,9 +38,9 @@ one_more r a Solves = by (first_stop (stops_of (updated r a.energies) a))
     plus : recorded_in (in_order r.rows ++ (entry r a ∷ [])) ≡ recorded_in (in_order r.rows) + length (made_by r a Solves)
     plus = recorded_more (in_order r.rows) (entry r a) ∙ ap (λ (k : ℕ). recorded_in (in_order r.rows) + k) (sym (entry-passes r a))
 
-    by : (v : Course) → recorded_in (in_order (onward (updated r a.energies) v).run.rows) ≡ recorded_in (in_order r.rows) + length (made_by r a Solves)
-    by (Ends why) = plus
-    by Onward = plus
+    by : (v : Option Stop) → recorded_in (in_order (onward (updated r a.energies) v).run.rows) ≡ recorded_in (in_order r.rows) + length (made_by r a Solves)
+    by (Some why) = plus
+    by None = plus
 
 one_answer : (r : Run) (a : Answer) → recorded_in (in_order (answered r a).run.rows) ≡ recorded_in (in_order r.rows) + length (made_by r a (judged r.part (checks_of r a)))
 unfolding answered

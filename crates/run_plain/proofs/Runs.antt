@@ -1,4 +1,6 @@
 -- What holds of every plain run: its questions, its records and how it ends. By induction on the answers. Assumes nothing.
+use Rattle.topo.specs.declared.Stop.{Stop}
+use Rattle.std.specs.Prelude.{Option, Some, None}
 use mathlib.Core.Path.{◌≡◌, refl, sym, ap, ◌∙◌, subst}
 use mathlib.Core.Bool.{false}
 use mathlib.Core.List.{List, [], ◌∷◌, ◌++◌}
@@ -13,11 +15,8 @@ use Rattle.topo.specs.declared.Sharpening.{Sharpening}
 use Rattle.topo.specs.declared.Sharpening.TheVariants.{Full}
 use Rattle.run_plain.specs.declared.Verdict.{Verdict}
 use Rattle.run_plain.specs.declared.Verdict.TheVariants.{Kept, Over, Halts, Begins, Solves}
-use Rattle.run_plain.specs.declared.Course.{Course}
-use Rattle.run_plain.specs.declared.Course.TheVariants.{Onward, Ends}
-use Rattle.run_plain.specs.declared.Entry.TheVariants.{Opens}
 use Rattle.run_plain.specs.Formulas.{Steep, s16, sharpness}
-use Rattle.run_plain.specs.Opening.{Opening, entry_of}
+use Rattle.run_plain.specs.Opening.{Opening, entry_of, Opens}
 use Rattle.run_plain.specs.Plain.{Answer, Part, nothing, solid, round, Out, Row, Seen, in_order, judged, first_stop, same, sharpest, count_at, Run, plain_start, updated, stops_of, onward, checks_of, after, answered, left_of, plain_from, plain_run}
 use Rattle.run_plain.specs.Runs.{solid_in, round_in, solid_asked, rounds_asked, Upto, stop, more, First, All, none, each, full_steep, GoodRecord, Numbered, FullStages, GoodShown, good, Ended, refusal, by_solver, by_stop}
 use Rattle.run_plain.specs.Demand.{OpenedRun}
@@ -38,10 +37,10 @@ rest-none nothing m l e = e
 rest-none solid m l e = subst (Upto 1 m) (sym e) stop
 rest-none (round n) m l e = subst (Upto (suc n) m) (sym e) stop
 
-rest-onward : (r : Run) (a : Answer) (n : ℕ) → Keeps r → r.part ≡ round n → (v : Course) → first_stop (stops_of (updated r a.energies) a) ≡ v → (l : List ℕ)
+rest-onward : (r : Run) (a : Answer) (n : ℕ) → Keeps r → r.part ≡ round n → (v : Option Stop) → first_stop (stops_of (updated r a.energies) a) ≡ v → (l : List ℕ)
     → Rest (onward (updated r a.energies) v).run.part r.given.goal.max_iterations l → Rest r.part r.given.goal.max_iterations (round_in (onward (updated r a.energies) v).out ++ l)
-rest-onward r a n k p (Ends why) e l h = rest-none r.part r.given.goal.max_iterations l h
-rest-onward r a n k p Onward e l h =
+rest-onward r a n k p (Some why) e l h = rest-none r.part r.given.goal.max_iterations l h
+rest-onward r a n k p None e l h =
     let t : (n ≡ suc (length r.rows)) × (length r.rows < r.given.goal.max_iterations) × (sharpest r.given.goal.sharpen r.steep ≡ false → count_at r.steep r.rows < 20) = subst (λ (x : Part). Here x r) p k.here in
     let g : GoesOn (stops_of (updated r a.energies) a) = goes_on _ e in
     let b : suc (length r.rows) < r.given.goal.max_iterations = leb-false _ _ g.limit in
@@ -64,9 +63,9 @@ given-after r a Halts = refl
 given-after r a Begins = refl
 given-after r a Solves = by (first_stop (stops_of (updated r a.energies) a))
   where
-    by : (v : Course) → (onward (updated r a.energies) v).run.given ≡ r.given
-    by (Ends why) = refl
-    by Onward = refl
+    by : (v : Option Stop) → (onward (updated r a.energies) v).run.given ≡ r.given
+    by (Some why) = refl
+    by None = refl
 
 pub given-kept : (r : Run) (a : Answer) → (answered r a).run.given ≡ r.given
 unfolding answered
@@ -90,9 +89,9 @@ solid-after r a Halts = refl
 solid-after r a Begins = refl
 solid-after r a Solves = by (first_stop (stops_of (updated r a.energies) a))
   where
-    by : (v : Course) → solid_in (onward (updated r a.energies) v).out ≡ 0
-    by (Ends why) = refl
-    by Onward = refl
+    by : (v : Option Stop) → solid_in (onward (updated r a.energies) v).out ≡ 0
+    by (Some why) = refl
+    by None = refl
 
 solid-on : (r : Run) (a : Answer) → solid_in (answered r a).out ≡ 0
 unfolding answered
@@ -170,10 +169,10 @@ opened-run o rest e =
     rw e (record { solid = omega (arith, solid-from (plain_start o) rest); rounds = rounds-from (plain_start o) rest k; records = each (good_left (plain_start o) k) (good-from o (plain_start o) rest refl k) })
 
 -- ---- ends
-ends-onward : (r : Run) (a : Answer) (v : Course) → judged r.part (checks_of r a) ≡ Solves → First (stops_of (updated r a.energies) a) v
+ends-onward : (r : Run) (a : Answer) (v : Option Stop) → judged r.part (checks_of r a) ≡ Solves → First (stops_of (updated r a.energies) a) v
     → (onward (updated r a.energies) v).run.part ≡ nothing → Ended r a (onward (updated r a.energies) v).out
-ends-onward r a (Ends why) e f p = by_stop e f
-ends-onward r a Onward e f p = absurd (let z : ◌≡◌ {A = ℕ} 0 1 = cc in omega arith)
+ends-onward r a (Some why) e f p = by_stop e f
+ends-onward r a None e f p = absurd (let z : ◌≡◌ {A = ℕ} 0 1 = cc in omega arith)
 
 ends-after : (r : Run) (a : Answer) (v : Verdict) → judged r.part (checks_of r a) ≡ v → (r.part ≡ nothing → ⊥) → (after r a v).run.part ≡ nothing → Ended r a (after r a v).out
 ends-after r a (Kept n) e h p = absurd (h p)
@@ -192,4 +191,4 @@ pub ends_there : (r : Run) (a : Answer) (o : Out) → Ended r a o → ((answered
 unfolding answered
 ends_there r a o (refusal e) = rw e (refl, refl)
 ends_there r a o (by_solver e) = rw e (refl, refl)
-ends_there r a o (by_stop {why = why} e f) = rw (e, first-only (stops_of (updated r a.energies) a) (Ends why) f) (refl, refl)
+ends_there r a o (by_stop {why = why} e f) = rw (e, first-only (stops_of (updated r a.energies) a) (Some why) f) (refl, refl)

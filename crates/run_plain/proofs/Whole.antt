@@ -1,4 +1,5 @@
 -- The calls do what the plain run does, whatever list of answers comes: one case for each verdict, then induction on the answers. Assumes nothing.
+use Rattle.std.specs.Prelude.{Option, Some, None}
 use mathlib.Core.Path.{◌≡◌, refl, sym, ap, ◌∙◌, subst}
 use mathlib.Core.Bool.{Bool, true, false, ◌&&◌}
 use mathlib.Core.List.{List, [], ◌∷◌, ◌++◌, map}
@@ -11,6 +12,7 @@ use lib.Ieee.{Float}
 use borrow.Author.Tests.{leb-false}
 use Rattle.lists.specs.Lists.{choose, overlay}
 use Rattle.lists.proofs.Laws.{choose-false}
+use Rattle.refusal.specs.Refusals.{number_of}
 use Rattle.topo.specs.declared.Iteration.{Iteration}
 use Rattle.topo.specs.declared.Sharpening.{Sharpening}
 use Rattle.topo.specs.declared.Stop.{Stop}
@@ -20,20 +22,15 @@ use Rattle.oc_record.specs.Record.{compliance_of}
 use Rattle.update_rates.specs.Rates.{Search}
 use Rattle.run_plain.specs.declared.Phase.{Phase}
 use Rattle.run_plain.specs.declared.Phase.TheVariants.{Idle, Solid, Round}
-use Rattle.run_plain.specs.declared.Reply.TheVariants.{Stop as StopReply}
 use Rattle.run_plain.specs.declared.Verdict.{Verdict}
 use Rattle.run_plain.specs.declared.Verdict.TheVariants.{Kept, Over, Halts, Begins, Solves}
-use Rattle.run_plain.specs.declared.Course.{Course}
-use Rattle.run_plain.specs.declared.Course.TheVariants.{Onward, Ends}
-use Rattle.run_plain.specs.declared.Entry.{Entry}
-use Rattle.run_plain.specs.declared.Entry.TheVariants.{Kept as KeptOut, Zeroed, Shut, Opens}
 use Rattle.run_plain.specs.declared.State.{State}
 use Rattle.run_plain.specs.declared.Heard.{Heard}
 use Rattle.run_plain.specs.Lent.{Sizes}
 use Rattle.run_plain.specs.Formulas.{Steep, s1, ones, see, record_at}
-use Rattle.run_plain.specs.Opening.{Opening, elements, starts_of, near_of, coef_of, case_of, start_of, entry_of}
+use Rattle.run_plain.specs.Opening.{Opening, elements, starts_of, near_of, coef_of, case_of, start_of, entry_of, Entry, Kept as KeptOut, Zeroed, Shut, Opens}
 use Rattle.run_plain.specs.Plain.{Part, nothing, solid, round, refused, asks, stops, unopened, shown, Seen, Row, judged, first_stop, sharpest, count_at, level_with, steady_run, due_steep, Run, ended, plain_start, asked_of, asking, with_work, updated, stops_of, onward, checks_of, after, answered, run_from, plain_from, plain_shut, plain_open, plain_run}
-use Rattle.run_plain.specs.Calls.{ended_of, Lists, Arguments, Result, sizes_of, steep_at, sound, part_of, case_from, design_in, density_in, checks_at, keeps, first_asked, update_in, record_in, level_at, steady_at, stops_at, stage_after, turns_after, onward_state, solved_lists, solved_by, answer_by, answer_of, Asked, opening_of, opened_state, open_by, in_turn, open_of, World, lend, give_back, Call, world_after, out_of, calls_from, calls_shut, calls_by, calls_run, fed, NoRun, world_open, world_from}
+use Rattle.run_plain.specs.Calls.{ended_of, Lists, Arguments, Result, sizes_of, steep_at, sound, part_of, case_from, design_in, density_in, checks_at, keeps, ends, first_asked, update_in, record_in, level_at, steady_at, stops_at, stage_after, turns_after, onward_state, solved_lists, solved_by, answer_by, answer_of, Asked, opening_of, opened_state, open_by, in_turn, open_of, World, lend, give_back, Call, world_after, out_of, calls_from, calls_shut, calls_by, calls_run, fed, NoRun, world_open, world_from}
 use Rattle.run_plain.specs.Demand.{Stands}
 use Rattle.run_plain.proofs.Parts.{take_part, take-overlay, overlay-part, Renewed, renewed, Added, added}
 use Rattle.run_plain.proofs.Formulas.{Ready, ready, length-ones, length-start, length-see, length-update}
@@ -53,7 +50,7 @@ last-is [] a b e f = absurd (let z : ◌≡◌ {A = ℕ} 0 1 = cc in omega arith
 last-is (r ∷ rows) a b e f = f
 
 is_halted : (l₀ : Lists) (r : Run) (s : State) (l : Lists) (k : Sizes) → Sim l₀ r s l → Suffices s k l → ltb 0 (length r.rows) ≡ true
-    → Alike l₀ l (record { state = ended_of s; reply = StopReply Stopped; lists = lend k l }) (record { run = ended r; out = stops Stopped r.last })
+    → Alike l₀ l (record { state = ended_of s; reply = ends Stopped; lists = lend k l }) (record { run = ended r; out = stops Stopped r.last })
 is_halted l₀ r s l k m h e =
     record {
       out = ap (stops Stopped) (take_part s.setting.elements k.last l.last h.room.last ∙ last-is r.rows _ _ e m.last);
@@ -162,7 +159,7 @@ is-recorded l₀ r s l k a ph st tu sy w b p density m h d q lt hq hs f c =
     })
 
 is-stopped : (l₀ : Lists) (r : Run) (s : State) (l : Lists) (k : Sizes) (a : Arguments) (why : Stop) → Sim l₀ r s l → Suffices s k l → Reads r s (lend k l) → density_in s (lend k l) ≡ asked_of r → s.progress.rounds < s.setting.max_iterations
-    → Alike l₀ l (solved_by s a (lend k l) (Ends why)) (onward (updated r a.energies) (Ends why))
+    → Alike l₀ l (solved_by s a (lend k l) (Some why)) (onward (updated r a.energies) (Some why))
 is-stopped l₀ r s l k a why m h d q lt =
     record {
       out = ap (stops why) (last-renewed r s l k h q).part;
@@ -173,7 +170,7 @@ is-stopped l₀ r s l k a why m h d q lt =
 is-onward : (l₀ : Lists) (r : Run) (s : State) (l : Lists) (k : Sizes) (a : Arguments) → Sim l₀ r s l → Suffices s k l → Reads r s (lend k l) → density_in s (lend k l) ≡ asked_of r
     → Running r.given.goal.sharpen r.steep r.rows s → s.progress.rounds < s.setting.max_iterations
     → (sharpest s.setting.sharpen (steep_at s.progress.stage) && leb 5 (steady_at s (record_in s a (lend k l)).compliance)) ≡ false → leb s.setting.max_iterations (suc s.progress.rounds) ≡ false
-    → Alike l₀ l (solved_by s a (lend k l) Onward) (onward (updated r a.energies) Onward)
+    → Alike l₀ l (solved_by s a (lend k l) None) (onward (updated r a.energies) None)
 is-onward l₀ r s l k a m h d q g lt hl hr =
     let o : Solved r s a (lend k l) = solved r s a (lend k l) d q m.rounds in
     let f = r.given.goal.sharpen in
@@ -198,7 +195,7 @@ is-onward l₀ r s l k a m h d q g lt hl hr =
           nn.whole nn.long (refl, refl, omega arith, w') (climbs-on f r.steep b' e' r.rows m.climbs (moved f r.steep (row_of r.steep e' ∷ r.rows)));
     }
 
-goes_at : (s : State) (a : Heard) (e : Iteration) → first_stop (stops_at s a e) ≡ Onward → ((sharpest s.setting.sharpen (steep_at s.progress.stage) && leb 5 (steady_at s e.compliance)) ≡ false) × (leb s.setting.max_iterations (suc s.progress.rounds) ≡ false)
+goes_at : (s : State) (a : Heard) (e : Iteration) → first_stop (stops_at s a e) ≡ None → ((sharpest s.setting.sharpen (steep_at s.progress.stage) && leb 5 (steady_at s e.compliance)) ≡ false) × (leb s.setting.max_iterations (suc s.progress.rounds) ≡ false)
 unfolding stops_at
 goes_at s a e h = let g = goes_on (stops_at s a e) h in (g.levelled, g.limit)
 
@@ -221,9 +218,9 @@ is-solved l₀ r s l c n m h p = go (first_stop (stops_of (updated r c.arguments
     t : stops_at s c.arguments.heard (record_in s c.arguments (lend c.lent l)) ≡ stops_of (updated r c.arguments.energies) (fed l₀ c)
     t = stops_same l₀ r s l c m d (solved r s c.arguments (lend c.lent l) d q m.rounds) f.3
 
-    go : (v : Course) → first_stop (stops_of (updated r c.arguments.energies) (fed l₀ c)) ≡ v → Alike l₀ l (answer_by s c.arguments (lend c.lent l) Solves) (after r (fed l₀ c) Solves)
-    go (Ends why) e = rw (t, e) (is-stopped l₀ r s l c.lent c.arguments why m h d q lt)
-    go Onward e =
+    go : (v : Option Stop) → first_stop (stops_of (updated r c.arguments.energies) (fed l₀ c)) ≡ v → Alike l₀ l (answer_by s c.arguments (lend c.lent l) Solves) (after r (fed l₀ c) Solves)
+    go (Some why) e = rw (t, e) (is-stopped l₀ r s l c.lent c.arguments why m h d q lt)
+    go None e =
         let g = goes_at s c.arguments.heard (record_in s c.arguments (lend c.lent l)) (ap first_stop t ∙ e) in
         rw (t, e) (is-onward l₀ r s l c.lent c.arguments m h d q f.3 lt g.0 g.1)
 
@@ -231,8 +228,8 @@ is-solved l₀ r s l c n m h p = go (first_stop (stops_of (updated r c.arguments
 verdict-is : (l₀ : Lists) (r : Run) (s : State) (l : Lists) (c : Call) → Sim l₀ r s l → (v : Verdict) → Told-of v r.part (checks_of r (fed l₀ c))
     → Alike l₀ l (answer_by s c.arguments (lend c.lent l) v) (after r (fed l₀ c) v)
 unfolding checks_of
-verdict-is l₀ r s l c m (Kept n) t = is-kept l₀ r s l c.lent n m
-verdict-is l₀ r s l c m (Over n) t = is-over l₀ r s l c.lent n m
+verdict-is l₀ r s l c m (Kept n) t = is-kept l₀ r s l c.lent (number_of n) m
+verdict-is l₀ r s l c m (Over n) t = is-over l₀ r s l c.lent (number_of n) m
 verdict-is l₀ r s l c m Halts t = is_halted l₀ r s l c.lent m (suffices l₀ r s l c m t.0) t.1
 verdict-is l₀ r s l c m Begins t = is-begun l₀ r s l c.lent c.arguments m (suffices l₀ r s l c m t.0) t.1
 verdict-is l₀ r s l c m Solves t = is-solved l₀ r s l c t.1 m (suffices l₀ r s l c m t.0) t.2

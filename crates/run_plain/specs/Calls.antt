@@ -1,10 +1,12 @@
 -- What the contracts of `open` and `answer` state, over the numbers of a state and the lists that are lent; and a caller that hands each call the
 -- state and the lists as the last call left them, or a part of a list. Of the working lists only the lengths count. Definitions only.
-use Rattle.std.specs.Prelude.{◌≡◌, Bool, true, false, not, ◌&&◌, ◌||◌, List, [], ◌∷◌, ℕ, zero, suc, length, take, set, replicate, ltb, leb, eqb, Float}
+use Rattle.std.specs.Prelude.{◌≡◌, Bool, true, false, not, ◌&&◌, ◌||◌, List, [], ◌∷◌, ℕ, zero, suc, length, take, set, replicate, ltb, leb, eqb, Float, Option, Some, None}
 use Rattle.lists.specs.Lists.{choose, zero64, overlay}
+use Rattle.refusal.specs.Refusals.{number_of}
 use Rattle.topo.specs.declared.Goal.{Goal}
 use Rattle.topo.specs.declared.Iteration.{Iteration}
 use Rattle.topo.specs.declared.Sharpening.TheVariants.{Off}
+use Rattle.topo.specs.declared.Stop.{Stop}
 use Rattle.topo.specs.declared.Stop.TheVariants.{Stopped}
 use Rattle.topo.specs.Stages.{sharpens, early}
 use Rattle.oc_record.specs.Record.{compliance_of}
@@ -13,21 +15,18 @@ use Rattle.run_plain.specs.declared.Phase.{Phase}
 use Rattle.run_plain.specs.declared.Phase.TheVariants.{Idle, Solid, Round}
 use Rattle.run_plain.specs.declared.Heard.{Heard}
 use Rattle.run_plain.specs.declared.Reply.{Reply}
-use Rattle.run_plain.specs.declared.Reply.TheVariants.{Refused, Solid as SolidPart, Round as RoundPart, Stop}
+use Rattle.run_plain.specs.declared.Reply.TheVariants.{Refused, Solid as SolidPart, Round as RoundPart, Stop as StopReply}
 use Rattle.run_plain.specs.declared.Verdict.{Verdict}
 use Rattle.run_plain.specs.declared.Verdict.TheVariants.{Kept, Over, Halts, Begins, Solves}
-use Rattle.run_plain.specs.declared.Course.{Course}
-use Rattle.run_plain.specs.declared.Course.TheVariants.{Onward, Ends}
-use Rattle.run_plain.specs.declared.Entry.{Entry}
-use Rattle.run_plain.specs.declared.Entry.TheVariants.{Kept as KeptOut, Zeroed, Shut, Opens}
 use Rattle.run_plain.specs.declared.Setting.{Setting}
 use Rattle.run_plain.specs.declared.Progress.{Progress}
 use Rattle.run_plain.specs.declared.Compliances.{Compliances}
 use Rattle.run_plain.specs.declared.State.{State}
 use Rattle.run_plain.specs.Lent.{Sizes, answer_short}
 use Rattle.run_plain.specs.Formulas.{Steep, s1, s2, s4, s8, s16, Case, ones, see, update_at, record_at, not_finite, idle, small, level}
-use Rattle.run_plain.specs.Opening.{Opening, elements, starts_of, near_of, coef_of, start_of, entry_of}
-use Rattle.run_plain.specs.Plain.{Answer, Part, nothing, solid, round, Out, refused, asks, stops, Shown, unopened, shown, Seen, Checks, judged, Stops, first_stop, sharpest}
+use Rattle.run_plain.specs.Opening.{Opening, elements, starts_of, near_of, coef_of, start_of, Entry, Kept as KeptOut, Zeroed, Shut, Opens, entry_of}
+use Rattle.run_plain.specs.declared.Checks.{Checks}
+use Rattle.run_plain.specs.Plain.{Answer, Part, nothing, solid, round, Out, refused, asks, stops, Shown, unopened, shown, Seen, judged, Stops, first_stop, sharpest}
 
 -- ---- what is lent, and what a call leaves
 pub record Lists : Type 0 where
@@ -47,10 +46,23 @@ pub record Arguments : Type 0 where
   pub heard : Heard
   pub energies : List Float
 
+-- a reply, a refusal by its number
+pub data Replied : Type 0 where
+  refuses : ℕ → Replied
+  asks_solid : Replied
+  asks_round : ℕ → Replied
+  ends : Stop → Replied
+
+abbrev pub replied : Reply → Replied
+replied (Refused r) = refuses (number_of r)
+replied SolidPart = asks_solid
+replied (RoundPart n) = asks_round n
+replied (StopReply why) = ends why
+
 -- what a call returns, and its lists as it leaves them
 pub record Result : Type 0 where
   pub state : State
-  pub reply : Reply
+  pub reply : Replied
   pub lists : Lists
 
 -- every list but the history and the working lists
@@ -70,8 +82,7 @@ lists_of l h =
 
 -- the lists with what an answer writes
 abbrev pub written_lists : Lists → List Float → List Float → List Float → List Iteration → Lists
-written_lists l design density last history =
-    record { volumes = l.volumes; passive = l.passive; starts = l.starts; near = l.near; coef = l.coef; design = design; density = density; last = last; history = history }
+written_lists l design density last history = record l { design = design; density = density; last = last; history = history }
 
 -- the lengths, with those of the working lists
 abbrev pub sizes_of : List ℕ → Lists → Sizes
@@ -115,7 +126,7 @@ no_work = record { solid = zero64; last = zero64 }
 
 -- "Over": the state ended
 abbrev pub ended_of : State → State
-ended_of s = record { phase = Idle; setting = s.setting; progress = s.progress; compliances = s.compliances }
+ended_of s = record s { phase = Idle }
 
 -- the steepness of a stage
 abbrev pub steep_at : ℕ → Steep
@@ -173,10 +184,10 @@ checks_at s a k =
 
 -- ---- an answer
 abbrev pub keeps : State → ℕ → Lists → Result
-keeps s n l = record { state = s; reply = Refused n; lists = l }
+keeps s n l = record { state = s; reply = refuses n; lists = l }
 
 abbrev pub first_state : State → Float → State
-first_state s w = record { phase = Round; setting = s.setting; progress = s.progress; compliances = record { solid = w; last = s.compliances.last } }
+first_state s w = record s { phase = Round; compliances = record s.compliances { solid = w } }
 
 abbrev pub design_in : State → Lists → List Float
 design_in s l = take s.setting.elements l.design
@@ -189,7 +200,7 @@ abbrev pub first_asked : State → Arguments → Lists → Result
 first_asked s a l =
     record {
       state = first_state s (compliance_of a.energies);
-      reply = RoundPart 1;
+      reply = asks_round 1;
       lists = written_lists l l.design (overlay (see (case_from s l) (steep_at s.progress.stage) (design_in s l)) l.density) l.last l.history;
     }
 
@@ -230,39 +241,32 @@ turns_after s r = choose (sharpest s.setting.sharpen (steep_at s.progress.stage)
 
 -- the state with the record added: at a stop, and going on
 abbrev pub recorded_state : State → Iteration → State
-recorded_state s r =
-    record {
-      phase = Idle;
-      setting = s.setting;
-      progress = record { rounds = suc s.progress.rounds; stage = s.progress.stage; at_stage = s.progress.at_stage; steady = s.progress.steady };
-      compliances = record { solid = s.compliances.solid; last = r.compliance };
-    }
+recorded_state s r = record s { phase = Idle; progress = record s.progress { rounds = suc s.progress.rounds }; compliances = record s.compliances { last = r.compliance } }
 
 abbrev pub onward_state : State → Iteration → State
 onward_state s r =
-    record {
+    record s {
       phase = Round;
-      setting = s.setting;
       progress = record { rounds = suc s.progress.rounds; stage = stage_after s r; at_stage = turns_after s r; steady = steady_at s r.compliance };
-      compliances = record { solid = s.compliances.solid; last = r.compliance };
+      compliances = record s.compliances { last = r.compliance };
     }
 
 abbrev pub solved_lists : State → Arguments → Lists → List Float → Lists
 solved_lists s a l density = written_lists l (overlay (update_in s a l).design l.design) density (overlay (density_in s l) l.last) (set l.history s.progress.rounds (record_in s a l))
 
-abbrev pub solved_by : State → Arguments → Lists → Course → Result
-solved_by s a l (Ends why) = record { state = recorded_state s (record_in s a l); reply = Stop why; lists = solved_lists s a l l.density }
-solved_by s a l Onward =
+abbrev pub solved_by : State → Arguments → Lists → Option Stop → Result
+solved_by s a l (Some why) = record { state = recorded_state s (record_in s a l); reply = ends why; lists = solved_lists s a l l.density }
+solved_by s a l None =
     record {
       state = onward_state s (record_in s a l);
-      reply = RoundPart (suc (suc s.progress.rounds));
+      reply = asks_round (suc (suc s.progress.rounds));
       lists = solved_lists s a l (overlay (see (case_from s l) (steep_at (stage_after s (record_in s a l))) (update_in s a l).design) l.density);
     }
 
 abbrev pub answer_by : State → Arguments → Lists → Verdict → Result
-answer_by s a l (Kept n) = keeps s n l
-answer_by s a l (Over n) = keeps (ended_of s) n l
-answer_by s a l Halts = record { state = ended_of s; reply = Stop Stopped; lists = l }
+answer_by s a l (Kept n) = keeps s (number_of n) l
+answer_by s a l (Over n) = keeps (ended_of s) (number_of n) l
+answer_by s a l Halts = record { state = ended_of s; reply = ends Stopped; lists = l }
 answer_by s a l Begins = first_asked s a l
 answer_by s a l Solves = solved_by s a l (first_stop (stops_at s a.heard (record_in s a l)))
 
@@ -283,33 +287,12 @@ opening_of g work l = record { volumes = l.volumes; centroids = g.centroids; pas
 
 -- "the three filter lists [..] are zero throughout"
 unfoldable pub zeroed_lists : Lists → Lists
-zeroed_lists l =
-    record {
-      volumes = l.volumes;
-      passive = l.passive;
-      starts = replicate (length l.starts) 0;
-      near = replicate (length l.near) 0;
-      coef = replicate (length l.coef) zero64;
-      design = l.design;
-      density = l.density;
-      last = l.last;
-      history = l.history;
-    }
+zeroed_lists l = record l { starts = replicate (length l.starts) 0; near = replicate (length l.near) 0; coef = replicate (length l.coef) zero64 }
 
 -- the finished filter in its lists, with the design and the densities given
 abbrev pub built_lists : Opening → Lists → List Float → List Float → Lists
 built_lists o l design density =
-    record {
-      volumes = l.volumes;
-      passive = l.passive;
-      starts = overlay (starts_of o) l.starts;
-      near = overlay (near_of o) l.near;
-      coef = overlay (coef_of o) l.coef;
-      design = design;
-      density = density;
-      last = l.last;
-      history = l.history;
-    }
+    record l { starts = overlay (starts_of o) l.starts; near = overlay (near_of o) l.near; coef = overlay (coef_of o) l.coef; design = design; density = density }
 
 abbrev pub setting_of : Goal → ℕ → ℕ → Setting
 setting_of g elements entries = record { elements = elements; entries = entries; fraction = g.fraction; sharpen = g.sharpen; max_iterations = g.max_iterations }
@@ -321,7 +304,7 @@ abbrev pub open_by : State → Opening → Lists → Entry → Result
 open_by s o l (KeptOut n) = keeps s n l
 open_by s o l (Zeroed n) = keeps s n (zeroed_lists l)
 open_by s o l Shut = keeps (ended_of s) 15 (built_lists o l l.design l.density)
-open_by s o l Opens = record { state = opened_state o.goal (elements o) (length (near_of o)); reply = SolidPart; lists = built_lists o l (overlay (start_of o) l.design) (overlay (ones (elements o)) l.density) }
+open_by s o l Opens = record { state = opened_state o.goal (elements o) (length (near_of o)); reply = asks_solid; lists = built_lists o l (overlay (start_of o) l.design) (overlay (ones (elements o)) l.density) }
 
 -- in turn: no run is open
 abbrev pub in_turn : Phase → Bool
@@ -378,11 +361,11 @@ abbrev pub world_after : Lists → Result → World
 world_after l r = record { state = r.state; lists = give_back r.lists l }
 
 -- "a definition gives this paper's number and values for each case": the densities asked for are in `density`, those of a stop in `last`
-abbrev pub out_by : Reply → ℕ → Lists → Out
-out_by (Refused n) elements l = refused n
-out_by SolidPart elements l = asks solid (take elements l.density)
-out_by (RoundPart n) elements l = asks (round n) (take elements l.density)
-out_by (Stop why) elements l = stops why (take elements l.last)
+abbrev pub out_by : Replied → ℕ → Lists → Out
+out_by (refuses k) n l = refused k
+out_by asks_solid n l = asks solid (take n l.density)
+out_by (asks_round k) n l = asks (round k) (take n l.density)
+out_by (ends why) n l = stops why (take n l.last)
 
 abbrev pub out_of : Result → Out
 out_of r = out_by r.reply r.state.setting.elements r.lists
@@ -403,11 +386,11 @@ calls_shut w (c ∷ more) =
     let r = result_of w c in
     record { out = out_of r; left = unopened } ∷ calls_shut (world_after w.lists r) more
 
-abbrev pub calls_by : World → List Call → Reply → Out → List Seen
-calls_by w more (Refused n) out = record { out = out; left = unopened } ∷ calls_shut w more
-calls_by w more SolidPart out = record { out = out; left = left_at w } ∷ calls_from w more
-calls_by w more (RoundPart n) out = record { out = out; left = left_at w } ∷ calls_from w more
-calls_by w more (Stop why) out = record { out = out; left = left_at w } ∷ calls_from w more
+abbrev pub calls_by : World → List Call → Replied → Out → List Seen
+calls_by w more (refuses n) out = record { out = out; left = unopened } ∷ calls_shut w more
+calls_by w more asks_solid out = record { out = out; left = left_at w } ∷ calls_from w more
+calls_by w more (asks_round n) out = record { out = out; left = left_at w } ∷ calls_from w more
+calls_by w more (ends why) out = record { out = out; left = left_at w } ∷ calls_from w more
 
 -- an opening, with so much of each list lent, and then answers
 unfoldable pub calls_run : World → Sizes → Asked → List Call → List Seen

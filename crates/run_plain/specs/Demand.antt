@@ -1,11 +1,10 @@
 -- Demand 3, as it is said of the functions that the contracts of `open` and `answer` cite: what holds of a whole run. Statements only; `demand` (proofs/Demand.antt) proves them.
 use Rattle.std.specs.Prelude.{◌≡◌, true, false, List, map, ℕ, ◌≤◌, take}
 use Rattle.topo.specs.declared.Sharpening.TheVariants.{Full}
-use Rattle.run_plain.specs.declared.Entry.TheVariants.{Opens}
 use Rattle.run_plain.specs.declared.State.{State}
 use Rattle.run_plain.specs.Lent.{Sizes}
 use Rattle.run_plain.specs.Formulas.{Steep}
-use Rattle.run_plain.specs.Opening.{Opening, entry_of}
+use Rattle.run_plain.specs.Opening.{Opening, entry_of, Opens}
 use Rattle.run_plain.specs.Plain.{Answer, nothing, Out, Seen, in_order, sharpest, Run, plain_start, run_from, plain_run}
 use Rattle.run_plain.specs.Calls.{Lists, Arguments, part_of, sound, answer_of, Asked, opening_of, World, lend, Call, result_of, out_of, calls_run, world_open, world_from, fed, NoRun}
 use Rattle.run_plain.specs.Runs.{solid_asked, rounds_asked, Upto, All, GoodShown, rounds_begun, times, FullFrom, Ended, made as made_in, recorded_in}

@@ -1,13 +1,11 @@
 -- 01, "The rounds": the formulas of a round, put together as `optimize` does, over what an opening was given. Definitions only.
-use Rattle.std.specs.Prelude.{Bool, not, List, ℕ, length, get_or, Float}
+use Rattle.std.specs.Prelude.{Bool, not, List, ℕ, length, get_or, Float, Option, Some, None}
 use Rattle.std.specs.Float.{nan, binary64}
 use Rattle.std.specs.Float.Ieee.{sub, mul, div, lt, of_bits}
 use Rattle.lists.specs.Lists.{tabulate, sum_to, any_to, choose, zero64}
 use Rattle.ieee.specs.Basic.{one64, abs_of, is_finite}
 use Rattle.ieee_root.specs.Sqrt.{sqrt_of}
 use Rattle.topo.specs.declared.Iteration.{Iteration}
-use Rattle.oc_seen.specs.declared.Sharpness.{Sharpness}
-use Rattle.oc_seen.specs.declared.Sharpness.TheVariants.{Off, At}
 use Rattle.oc_kept.specs.declared.Rule.TheVariants.{Straight, Sharpened}
 use Rattle.oc_start.specs.Start.{solid_volume, free_volumes}
 use Rattle.oc_goal.specs.Goal.{target_of, tolerance_of}
@@ -57,8 +55,8 @@ module _ (c : Case) where
   free = free_volumes c.volumes c.passive
 
   -- `if g.sharpen { Some(..) } else { None }`
-  abbrev pub seen_at : Steep → Sharpness
-  seen_at b = choose c.sharpen (At (sharpness b)) Off
+  abbrev pub seen_at : Steep → Option Float
+  seen_at b = choose c.sharpen (Some (sharpness b)) None
 
   -- the densities that a round's solve is asked for
   unfoldable pub see : Steep → List Float → List Float

@@ -1,10 +1,11 @@
 -- `Lent`: lists that are lent, and how long they must be. `Formulas`: a round's formulas put together as `optimize` does. `Opening`: what an
--- opening checks. `Plain`: the plain run. `Calls`: what the contracts of `open` and `answer` state. `Runs`: what is said of every run.
+-- opening checks. `Plain`: the plain run. `Calls`: what the contracts of `open` and `answer` state. `Held`: the lists that the code holds. `Runs`: what is said of every run.
 -- `Demand`: demand 3.
 pub mod Lent
 pub mod Formulas
 pub mod Opening
 pub mod Plain
 pub mod Calls
+pub mod Held
 pub mod Runs
 pub mod Demand

@@ -10,8 +10,6 @@ use Rattle.filter.specs.Filter.{neighbours, start, coefficients}
 use Rattle.filter.specs.Build.{rows_refusal, count_tests, filter_tests}
 use Rattle.oc_goal.specs.Goal.{no_room, target_of, start_density}
 use Rattle.oc_start.specs.Start.{solid_volume, start_design}
-use Rattle.run_plain.specs.declared.Entry.{Entry}
-use Rattle.run_plain.specs.declared.Entry.TheVariants.{Kept, Zeroed, Shut, Opens}
 use Rattle.run_plain.specs.Lent.{Sizes, open_short}
 use Rattle.run_plain.specs.Formulas.{Case, sum_of}
 
@@ -24,6 +22,13 @@ pub record Opening : Type 0 where
   pub goal : Goal
   pub flag : Bool
   pub lent : Sizes
+
+-- what an opening comes to: refused with all lists kept; refused with the filter's lists and the working lists zeroed; refused by the flag; opened
+pub data Entry : Type 0 where
+  Kept : ℕ → Entry
+  Zeroed : ℕ → Entry
+  Shut : Entry
+  Opens : Entry
 
 -- 5: "share not above 0 and below 1"
 abbrev pub fraction_bad : Float → Bool

@@ -1,7 +1,9 @@
 -- 01, "The plain run": "fed the calls' arguments alone: never the state, and of an answer's lists other than the energies only the lengths". It reads
 -- steady rounds and rounds at a steepness off its own records. Definitions only.
-use Rattle.std.specs.Prelude.{Bool, false, not, ◌&&◌, ◌||◌, List, [], ◌∷◌, ◌++◌, ℕ, suc, length, ltb, leb, eqb, Float}
+use Rattle.std.specs.Prelude.{Bool, false, not, ◌&&◌, ◌||◌, List, [], ◌∷◌, ◌++◌, ℕ, suc, length, ltb, leb, eqb, Float, Option, Some, None}
 use Rattle.lists.specs.Lists.{choose, zero64}
+use Rattle.refusal.specs.declared.Refusal.TheVariants as Refusal
+use Rattle.refusal.specs.Refusals.{number_of}
 use Rattle.topo.specs.declared.Iteration.{Iteration}
 use Rattle.topo.specs.declared.Sharpening.{Sharpening}
 use Rattle.topo.specs.declared.Stop.{Stop}
@@ -10,16 +12,13 @@ use Rattle.topo.specs.Stages.{sharpens, early}
 use Rattle.oc_record.specs.Record.{compliance_of}
 use Rattle.run_plain.specs.declared.Said.{Said}
 use Rattle.run_plain.specs.declared.Heard.{Heard}
+use Rattle.run_plain.specs.declared.Checks.{Checks}
 use Rattle.run_plain.specs.declared.Said.TheVariants.{Gave, Failed, Halted}
 use Rattle.run_plain.specs.declared.Verdict.{Verdict}
 use Rattle.run_plain.specs.declared.Verdict.TheVariants.{Kept, Over, Halts, Begins, Solves}
-use Rattle.run_plain.specs.declared.Course.{Course}
-use Rattle.run_plain.specs.declared.Course.TheVariants.{Onward, Ends}
-use Rattle.run_plain.specs.declared.Entry.{Entry}
-use Rattle.run_plain.specs.declared.Entry.TheVariants.{Kept as KeptOut, Zeroed, Shut, Opens}
 use Rattle.run_plain.specs.Lent.{Sizes, answer_short}
 use Rattle.run_plain.specs.Formulas.{Steep, s1, s2, s4, s8, s16, ones, see, update_at, record_at, not_finite, idle, small, level}
-use Rattle.run_plain.specs.Opening.{Opening, elements, near_of, case_of, start_of, entry_of}
+use Rattle.run_plain.specs.Opening.{Opening, elements, near_of, case_of, start_of, entry_of, Entry, Kept as KeptOut, Zeroed, Shut, Opens}
 
 -- ---- what goes in and what comes out
 -- an answer: what the solver said, the flag and the milliseconds; its energies; how long each other list is
@@ -97,30 +96,21 @@ steady_run sharpen [] = 0
 steady_run sharpen (r ∷ rows) = choose (sharpest sharpen r.steep && level_with rows r.entry.compliance) (suc (steady_run sharpen rows)) 0
 
 -- ---- "An answer checks 20, 14, 15 or 18 as the solver said, 16, 17, 19, then 15 by the flag."
-pub record Checks : Type 0 where
-  pub short : Bool
-  pub said : Said
-  pub stands : Bool
-  pub count : Bool
-  pub bad : Bool
-  pub idle : Bool
-  pub flag : Bool
-
 abbrev pub solid_said : Said → Checks → Verdict
-solid_said Halted c = Over 15
-solid_said Failed c = Over 18
-solid_said Gave c = choose c.count (Over 16) (choose c.bad (Over 17) (choose c.idle (Over 19) (choose c.flag (Over 15) Begins)))
+solid_said Halted c = Over Refusal.Stopped
+solid_said Failed c = Over Refusal.SolverFailed
+solid_said Gave c = choose c.count (Over Refusal.EnergiesDiffer) (choose c.bad (Over Refusal.EnergyNotFinite) (choose c.idle (Over Refusal.NoWork) (choose c.flag (Over Refusal.Stopped) Begins)))
 
 -- "Solver stopped: 15, or Stopped if a record stands."
 abbrev pub round_said : Said → Checks → Verdict
-round_said Halted c = choose c.stands Halts (Over 15)
-round_said Failed c = Over 18
-round_said Gave c = choose c.count (Over 16) (choose c.bad (Over 17) Solves)
+round_said Halted c = choose c.stands Halts (Over Refusal.Stopped)
+round_said Failed c = Over Refusal.SolverFailed
+round_said Gave c = choose c.count (Over Refusal.EnergiesDiffer) (choose c.bad (Over Refusal.EnergyNotFinite) Solves)
 
 unfoldable pub judged : Part → Checks → Verdict
-judged nothing c = Kept 20
-judged solid c = choose c.short (Kept 14) (solid_said c.said c)
-judged (round n) c = choose c.short (Kept 14) (round_said c.said c)
+judged nothing c = Kept Refusal.OutOfTurn
+judged solid c = choose c.short (Kept Refusal.ListTooShort) (solid_said c.said c)
+judged (round n) c = choose c.short (Kept Refusal.ListTooShort) (round_said c.said c)
 
 -- ---- "stops are tried in this order: Settled [..], LevelledOff [..], Limit, Budget. Earlier, only Limit and Budget." "Stopped comes last"
 pub record Stops : Type 0 where
@@ -131,13 +121,13 @@ pub record Stops : Type 0 where
   pub budget : Bool
   pub flag : Bool
 
-unfoldable pub first_stop : Stops → Course
+unfoldable pub first_stop : Stops → Option Stop
 first_stop t =
-    choose (t.sharp && t.small) (Ends Settled)
-    (choose (t.sharp && t.levelled) (Ends LevelledOff)
-    (choose t.limit (Ends Limit)
-    (choose t.budget (Ends Budget)
-    (choose t.flag (Ends Stopped) Onward))))
+    choose (t.sharp && t.small) (Some Settled)
+    (choose (t.sharp && t.levelled) (Some LevelledOff)
+    (choose t.limit (Some Limit)
+    (choose t.budget (Some Budget)
+    (choose t.flag (Some Stopped) None))))
 
 -- ---- the run
 -- "It keeps the opening's arguments, the part asked for [..], design, steepness, solid work, the densities asked with its last record's round, and its own
@@ -157,7 +147,7 @@ pub record Step : Type 0 where
 
 -- "No part after any."
 abbrev pub ended : Run → Run
-ended r = record { given = r.given; part = nothing; design = r.design; steep = r.steep; solid_work = r.solid_work; last = r.last; rows = r.rows }
+ended r = record r { part = nothing }
 
 -- "Else the start's design and steepness 1; it asks for the solid part."
 abbrev pub plain_start : Opening → Run
@@ -171,23 +161,19 @@ asked_of r = see (case_of r.given) r.steep r.design
 abbrev pub asking : Run → ℕ → Steep → Step
 asking r n b =
     record {
-      run = record { given = r.given; part = round n; design = r.design; steep = b; solid_work = r.solid_work; last = r.last; rows = r.rows };
+      run = record r { part = round n; steep = b };
       out = asks (round n) (see (case_of r.given) b r.design);
     }
 
 -- "Solid answer: work kept."
 abbrev pub with_work : Run → Float → Run
-with_work r w = record { given = r.given; part = r.part; design = r.design; steep = r.steep; solid_work = w; last = r.last; rows = r.rows }
+with_work r w = record r { solid_work = w }
 
 -- "Answer n: work and one update by the formulas above; record n with its reckonings; the updated design."
 abbrev pub updated : Run → List Float → Run
 updated r energies =
-    record {
-      given = r.given;
-      part = r.part;
+    record r {
       design = (update_at (case_of r.given) r.steep r.design (asked_of r) energies).design;
-      steep = r.steep;
-      solid_work = r.solid_work;
       last = asked_of r;
       rows = record { steep = r.steep; entry = record_at (case_of r.given) r.steep r.design (asked_of r) energies (suc (length r.rows)) } ∷ r.rows;
     }
@@ -213,9 +199,9 @@ unfoldable pub due_steep : Sharpening → Steep → List Row → Steep
 due_steep sharpen b rows = choose (sharpest sharpen b) b (choose (leb 20 (count_at b rows) || (early sharpen && newest_change rows)) (next b) b)
 
 -- "Then the first stop that applies, the flag's Stopped last: no part. Else steepness moves on if due and it asks for round n+1."
-abbrev pub onward : Run → Course → Step
-onward r (Ends why) = record { run = ended r; out = stops why r.last }
-onward r Onward = asking r (suc (length r.rows)) (due_steep r.given.goal.sharpen r.steep r.rows)
+abbrev pub onward : Run → Option Stop → Step
+onward r (Some why) = record { run = ended r; out = stops why r.last }
+onward r None = asking r (suc (length r.rows)) (due_steep r.given.goal.sharpen r.steep r.rows)
 
 unfoldable pub checks_of : Run → Answer → Checks
 checks_of r a =
@@ -230,8 +216,8 @@ checks_of r a =
     }
 
 abbrev pub after : Run → Answer → Verdict → Step
-after r a (Kept n) = record { run = r; out = refused n }
-after r a (Over n) = record { run = ended r; out = refused n }
+after r a (Kept n) = record { run = r; out = refused (number_of n) }
+after r a (Over n) = record { run = ended r; out = refused (number_of n) }
 after r a Halts = record { run = ended r; out = stops Stopped r.last }
 after r a Begins = asking (with_work r (compliance_of a.energies)) 1 r.steep
 after r a Solves = onward (updated r a.energies) (first_stop (stops_of (updated r a.energies) a))

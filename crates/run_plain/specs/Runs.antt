@@ -1,6 +1,9 @@
 -- What is said of every plain run: the questions that it puts, its records, its stops. Definitions only.
-use Rattle.std.specs.Prelude.{◌≡◌, true, false, ◌&&◌, List, [], ◌∷◌, ◌++◌, ℕ, suc, ◌+◌, ◌-◌, ◌/◌, ◌≤◌, ◌<◌, length, leb, Float}
+use Rattle.std.specs.Prelude.{◌≡◌, true, false, ◌&&◌, List, [], ◌∷◌, ◌++◌, ℕ, suc, ◌+◌, ◌-◌, ◌/◌, ◌≤◌, ◌<◌, length, leb, Float, Option, Some, None}
 use Rattle.lists.specs.Lists.{choose}
+use Rattle.refusal.specs.declared.Refusal.{Refusal as Turned}
+use Rattle.refusal.specs.declared.Refusal.TheVariants as Refusal
+use Rattle.refusal.specs.Refusals.{number_of}
 use Rattle.topo.specs.declared.Iteration.{Iteration}
 use Rattle.topo.specs.declared.Sharpening.{Sharpening}
 use Rattle.topo.specs.declared.Sharpening.TheVariants.{Full}
@@ -11,11 +14,10 @@ use Rattle.update_rates.specs.Tried.{reckonings}
 use Rattle.run_plain.specs.declared.Said.TheVariants.{Gave, Failed, Halted}
 use Rattle.run_plain.specs.declared.Verdict.{Verdict}
 use Rattle.run_plain.specs.declared.Verdict.TheVariants.{Kept, Over, Halts, Begins, Solves}
-use Rattle.run_plain.specs.declared.Course.{Course}
-use Rattle.run_plain.specs.declared.Course.TheVariants.{Onward, Ends}
 use Rattle.run_plain.specs.Formulas.{Steep, s16, sharpness, given_at}
 use Rattle.run_plain.specs.Opening.{Opening, case_of}
-use Rattle.run_plain.specs.Plain.{Part, nothing, solid, round, Out, refused, asks, stops, Row, Shown, shown, Seen, Stops, Checks, in_order, stage_of, same, sharpest, count_at, Run, Answer, judged, checks_of, stops_of, updated, asked_of, answered}
+use Rattle.run_plain.specs.declared.Checks.{Checks}
+use Rattle.run_plain.specs.Plain.{Part, nothing, solid, round, Out, refused, asks, stops, Row, Shown, shown, Seen, Stops, in_order, stage_of, same, sharpest, count_at, Run, Answer, judged, checks_of, stops_of, updated, asked_of, answered}
 use Rattle.run_plain.specs.Calls.{steep_at}
 
 -- ---- questions
@@ -48,13 +50,13 @@ pub data Upto : ℕ → ℕ → List ℕ → Type 0 where
   more : {n m : ℕ} {l : List ℕ} → n ≤ m → Upto (suc n) m l → Upto n m (n ∷ l)
 
 -- ---- the first stop that applies, those before it not
-pub data First (t : Stops) : Course → Type 0 where
-  settled : t.sharp ≡ true → t.small ≡ true → First t (Ends Settled)
-  levelled : (t.sharp && t.small) ≡ false → t.sharp ≡ true → t.levelled ≡ true → First t (Ends LevelledOff)
-  limit : (t.sharp && t.small) ≡ false → (t.sharp && t.levelled) ≡ false → t.limit ≡ true → First t (Ends Limit)
-  budget : (t.sharp && t.small) ≡ false → (t.sharp && t.levelled) ≡ false → t.limit ≡ false → t.budget ≡ true → First t (Ends Budget)
-  stopped : (t.sharp && t.small) ≡ false → (t.sharp && t.levelled) ≡ false → t.limit ≡ false → t.budget ≡ false → t.flag ≡ true → First t (Ends Stopped)
-  goes_on : (t.sharp && t.small) ≡ false → (t.sharp && t.levelled) ≡ false → t.limit ≡ false → t.budget ≡ false → t.flag ≡ false → First t Onward
+pub data First (t : Stops) : Option Stop → Type 0 where
+  settled : t.sharp ≡ true → t.small ≡ true → First t (Some Settled)
+  levelled : (t.sharp && t.small) ≡ false → t.sharp ≡ true → t.levelled ≡ true → First t (Some LevelledOff)
+  limit : (t.sharp && t.small) ≡ false → (t.sharp && t.levelled) ≡ false → t.limit ≡ true → First t (Some Limit)
+  budget : (t.sharp && t.small) ≡ false → (t.sharp && t.levelled) ≡ false → t.limit ≡ false → t.budget ≡ true → First t (Some Budget)
+  stopped : (t.sharp && t.small) ≡ false → (t.sharp && t.levelled) ≡ false → t.limit ≡ false → t.budget ≡ false → t.flag ≡ true → First t (Some Stopped)
+  goes_on : (t.sharp && t.small) ≡ false → (t.sharp && t.levelled) ≡ false → t.limit ≡ false → t.budget ≡ false → t.flag ≡ false → First t None
 
 -- ---- the records
 pub data All {A : Type 0} (P : A → Type 0) : List A → Type 0 where
@@ -100,9 +102,9 @@ pub data GoodShown (o : Opening) : Shown → Type 0 where
 -- ---- ends
 -- how an answer ends a run: a refusal that is over, the solver's stop, or the first stop that applies after an update
 pub data Ended (r : Run) (a : Answer) : Out → Type 0 where
-  refusal : {n : ℕ} → judged r.part (checks_of r a) ≡ Over n → Ended r a (refused n)
+  refusal : {n : Turned} → judged r.part (checks_of r a) ≡ Over n → Ended r a (refused (number_of n))
   by_solver : judged r.part (checks_of r a) ≡ Halts → Ended r a (stops Stopped r.last)
-  by_stop : {why : Stop} → judged r.part (checks_of r a) ≡ Solves → First (stops_of (updated r a.energies) a) (Ends why) → Ended r a (stops why (asked_of r))
+  by_stop : {why : Stop} → judged r.part (checks_of r a) ≡ Solves → First (stops_of (updated r a.energies) a) (Some why) → Ended r a (stops why (asked_of r))
 
 -- ---- refusals of an answer
 -- the solver gave energies, one an element, each finite, to lists that suffice
@@ -111,20 +113,20 @@ Sane c = (c.short ≡ false) × (c.said ≡ Gave) × (c.count ≡ false) × (c.b
 
 -- what an answer comes to, "given exactly if": 20, 14, then 15 or 18 as the solver said, 16, 17, 19, 15 by the flag
 pub data Judge (c : Checks) : Part → Verdict → Type 0 where
-  out_of_turn : Judge c nothing (Kept 20)
-  short_solid : c.short ≡ true → Judge c solid (Kept 14)
-  short_round : {n : ℕ} → c.short ≡ true → Judge c (round n) (Kept 14)
-  halted_solid : c.short ≡ false → c.said ≡ Halted → Judge c solid (Over 15)
-  halted_first : {n : ℕ} → c.short ≡ false → c.said ≡ Halted → c.stands ≡ false → Judge c (round n) (Over 15)
+  out_of_turn : Judge c nothing (Kept Refusal.OutOfTurn)
+  short_solid : c.short ≡ true → Judge c solid (Kept Refusal.ListTooShort)
+  short_round : {n : ℕ} → c.short ≡ true → Judge c (round n) (Kept Refusal.ListTooShort)
+  halted_solid : c.short ≡ false → c.said ≡ Halted → Judge c solid (Over Refusal.Stopped)
+  halted_first : {n : ℕ} → c.short ≡ false → c.said ≡ Halted → c.stands ≡ false → Judge c (round n) (Over Refusal.Stopped)
   halted_later : {n : ℕ} → c.short ≡ false → c.said ≡ Halted → c.stands ≡ true → Judge c (round n) Halts
-  failed_solid : c.short ≡ false → c.said ≡ Failed → Judge c solid (Over 18)
-  failed_round : {n : ℕ} → c.short ≡ false → c.said ≡ Failed → Judge c (round n) (Over 18)
-  count_solid : c.short ≡ false → c.said ≡ Gave → c.count ≡ true → Judge c solid (Over 16)
-  count_round : {n : ℕ} → c.short ≡ false → c.said ≡ Gave → c.count ≡ true → Judge c (round n) (Over 16)
-  bad_solid : c.short ≡ false → c.said ≡ Gave → c.count ≡ false → c.bad ≡ true → Judge c solid (Over 17)
-  bad_round : {n : ℕ} → c.short ≡ false → c.said ≡ Gave → c.count ≡ false → c.bad ≡ true → Judge c (round n) (Over 17)
-  idle_solid : Sane c → c.idle ≡ true → Judge c solid (Over 19)
-  flag_solid : Sane c → c.idle ≡ false → c.flag ≡ true → Judge c solid (Over 15)
+  failed_solid : c.short ≡ false → c.said ≡ Failed → Judge c solid (Over Refusal.SolverFailed)
+  failed_round : {n : ℕ} → c.short ≡ false → c.said ≡ Failed → Judge c (round n) (Over Refusal.SolverFailed)
+  count_solid : c.short ≡ false → c.said ≡ Gave → c.count ≡ true → Judge c solid (Over Refusal.EnergiesDiffer)
+  count_round : {n : ℕ} → c.short ≡ false → c.said ≡ Gave → c.count ≡ true → Judge c (round n) (Over Refusal.EnergiesDiffer)
+  bad_solid : c.short ≡ false → c.said ≡ Gave → c.count ≡ false → c.bad ≡ true → Judge c solid (Over Refusal.EnergyNotFinite)
+  bad_round : {n : ℕ} → c.short ≡ false → c.said ≡ Gave → c.count ≡ false → c.bad ≡ true → Judge c (round n) (Over Refusal.EnergyNotFinite)
+  idle_solid : Sane c → c.idle ≡ true → Judge c solid (Over Refusal.NoWork)
+  flag_solid : Sane c → c.idle ≡ false → c.flag ≡ true → Judge c solid (Over Refusal.Stopped)
   begun : Sane c → c.idle ≡ false → c.flag ≡ false → Judge c solid Begins
   solved : {n : ℕ} → Sane c → Judge c (round n) Solves
 

@@ -1,14 +1,14 @@
 -- A round's definitions by what each call on the way gives. Assumes nothing.
+use Rattle.std.specs.Prelude.{Some, None}
 use mathlib.Core.Path.{◌≡◌, refl, ap, ◌∙◌}
 use mathlib.Core.Bool.{Bool}
 use mathlib.Core.List.{List}
-use Prim.Native.Nat.{ℕ, zero, suc}
+use Prim.Native.Nat.{ℕ}
 use lib.ListN.{length, get_or}
 use lib.Ieee.{Float, nan, binary64, div, of_bits}
 use Rattle.lists.specs.Lists.{sum_to, choose}
 use Rattle.ieee_root.specs.Sqrt.{sqrt_of}
 use Rattle.topo.specs.declared.Iteration.{Iteration}
-use Rattle.oc_seen.specs.declared.Sharpness.TheVariants.{Off, At}
 use Rattle.oc_seen.specs.Seen.{slopes, element_slope, sharpened_slope, seen_slope}
 use Rattle.oc_kept.specs.declared.Rule.{Rule}
 use Rattle.oc_kept.specs.declared.Rule.TheVariants.{Straight, Sharpened}
@@ -22,22 +22,20 @@ use Rattle.update_rates.specs.Rates.{Given, updated}
 use Rattle.update.specs.Update.{Done}
 use Rattle.run_plain.specs.Formulas.{Case, sharpness, sum_of, given_at, update_at, record_at}
 use Rattle.run_plain.specs.Calls.{steep_at}
-use Rattle.run_round.specs.Round.{case_at, plain_slopes, SlopesInto}
-
-pub sharpness-last : (stage : ℕ) → (stage ≡ 0 → ⊥) → (stage ≡ 1 → ⊥) → (stage ≡ 2 → ⊥) → (stage ≡ 3 → ⊥) → of_bits binary64 0x4030_0000_0000_0000 ≡ sharpness (steep_at stage)
-sharpness-last zero a b c d = absurd (a refl)
-sharpness-last (suc zero) a b c d = absurd (b refl)
-sharpness-last (suc (suc zero)) a b c d = absurd (c refl)
-sharpness-last (suc (suc (suc zero))) a b c d = absurd (d refl)
-sharpness-last (suc (suc (suc (suc n)))) a b c d = refl
+use Rattle.run_round.specs.Round.{plain_slopes}
 
 -- without sharpening the filter does not come into the slopes
-pub slopes-off : (starts near : List ℕ) (coef : List Float) (passive : List Bool) (x : List Float) → plain_slopes passive ≡ seen_slope Off starts near coef passive x
+pub slopes_off : (starts near : List ℕ) (coef : List Float) (passive : List Bool) (x : List Float) → plain_slopes passive ≡ seen_slope None starts near coef passive x
 unfolding plain_slopes seen_slope slopes element_slope sharpened_slope
-slopes-off starts near coef passive x = refl
+slopes_off starts near coef passive x = refl
+
+-- the slopes of the work and of the volume
+pub record SlopesInto (sharpen : Bool) (beta : Float) (energies : List Float) (passive : List Bool) (starts near : List ℕ) (coef density x free dc dv : List Float) : Type 0 where
+  pub work : dc ≡ work_slope starts near coef passive density (seen_slope (choose sharpen (Some beta) None) starts near coef passive x) energies
+  pub volume : dv ≡ choose sharpen (volume_slope starts near coef (seen_slope (choose sharpen (Some beta) None) starts near coef passive x) free) (straight_slope starts near coef free)
 
 module _ (sharpen : Bool) (beta : Float) (energies : List Float) (passive : List Bool) (starts near : List ℕ) (coef density x free : List Float) where
-  pub slopes-are : (slope dc dv : List Float) → slope ≡ seen_slope (choose sharpen (At beta) Off) starts near coef passive x → dc ≡ work_slope starts near coef passive density slope energies
+  pub slopes-are : (slope dc dv : List Float) → slope ≡ seen_slope (choose sharpen (Some beta) None) starts near coef passive x → dc ≡ work_slope starts near coef passive density slope energies
       → dv ≡ choose sharpen (volume_slope starts near coef slope free) (straight_slope starts near coef free) → SlopesInto sharpen beta energies passive starts near coef density x free dc dv
   slopes-are slope dc dv e f g =
       record {
@@ -48,7 +46,7 @@ module _ (sharpen : Bool) (beta : Float) (energies : List Float) (passive : List
 -- a round, from what each step gives
 module _ (volumes : List Float) (passive : List Bool) (starts near : List ℕ) (coef : List Float) (fraction : Float) (sharpen : Bool) (stage : ℕ) (x q energies : List Float) where
   abbrev c : Case
-  c = case_at volumes passive starts near coef fraction sharpen
+  c = record { volumes = volumes; passive = passive; starts = starts; near = near; coef = coef; fraction = fraction; sharpen = sharpen }
 
   -- what the update is given, by the code's numbers
   abbrev given_by : Float → Float → Float → Rule → List Float → List Float → Given
@@ -62,8 +60,8 @@ module _ (volumes : List Float) (passive : List Bool) (starts near : List ℕ) (
       → tg ≡ target_of fraction t → tl ≡ tolerance_of t → ru ≡ choose sharpen (Sharpened b) (Straight s)
       → given_by m tg tl ru dc dv ≡ given_at c (steep_at stage) x q energies
   given_is t s b m tg tl ru f dc dv et es eb ef si em eg el er =
-      let dc' = si.work ∙ (λ i. work_slope starts near coef passive q (seen_slope (choose sharpen (At (eb i)) Off) starts near coef passive x) energies) in
-      let dv' = si.volume ∙ (λ i. choose sharpen (volume_slope starts near coef (seen_slope (choose sharpen (At (eb i)) Off) starts near coef passive x) (ef i)) (straight_slope starts near coef (ef i))) in
+      let dc' = si.work ∙ (λ i. work_slope starts near coef passive q (seen_slope (choose sharpen (Some (eb i)) None) starts near coef passive x) energies) in
+      let dv' = si.volume ∙ (λ i. choose sharpen (volume_slope starts near coef (seen_slope (choose sharpen (Some (eb i)) None) starts near coef passive x) (ef i)) (straight_slope starts near coef (ef i))) in
       let m' = em ∙ (λ i. choose sharpen (div binary64 (of_bits binary64 0x3fc9_9999_9999_999a) (sqrt_of binary64 (eb i))) (of_bits binary64 0x3fc9_9999_9999_999a)) in
       let ru' = er ∙ (λ i. choose sharpen (Sharpened (eb i)) (Straight (es i))) in
       let tg' = eg ∙ ap (target_of fraction) et in

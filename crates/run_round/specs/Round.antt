@@ -1,25 +1,36 @@
 -- What a round is given, as the formulas read it, and how long its lists are. Definitions only.
-use Rattle.std.specs.Prelude.{◌≡◌, Bool, false, List, ℕ, length, get_or, Float}
+use Rattle.std.specs.Prelude.{◌≡◌, Bool, false, List, length, get_or, Float}
 use Rattle.lists.specs.Lists.{tabulate, choose, zero64}
 use Rattle.ieee.specs.Basic.{one64}
-use Rattle.oc_seen.specs.declared.Sharpness.TheVariants.{Off, At}
-use Rattle.oc_seen.specs.Seen.{seen_slope}
-use Rattle.oc_slopes.specs.Slopes.{work_slope, volume_slope, straight_slope}
+use Rattle.topo.specs.Stages.{sharpens}
+use Rattle.run_plain.specs.declared.State.{State}
+use Rattle.run_plain.specs.declared.Elements.{Elements}
+use Rattle.run_plain.specs.declared.Work.{Work}
 use Rattle.run_plain.specs.Formulas.{Case}
 
-abbrev pub case_at : List Float → List Bool → List ℕ → List ℕ → List Float → Float → Bool → Case
-case_at volumes passive starts near coef fraction sharpen =
-    record { volumes = volumes; passive = passive; starts = starts; near = near; coef = coef; fraction = fraction; sharpen = sharpen }
+abbrev pub case_in : State → Elements → Case
+case_in s e =
+    record {
+      volumes = e.volumes.now;
+      passive = e.passive.now;
+      starts = e.table.starts.now;
+      near = e.table.near.now;
+      coef = e.table.coef.now;
+      fraction = s.setting.fraction;
+      sharpen = sharpens s.setting.sharpen;
+    }
 
 -- as many places as the elements have marks
 abbrev pub Long : {A : Type 0} → List Bool → List A → Type 0
 Long passive l = length l ≡ length passive
 
+pub record LongWork (passive : List Bool) (w : Work) : Type 0 where
+  pub free : Long passive w.free.now
+  pub slope : Long passive w.slope.now
+  pub spare : Long passive w.spare.now
+  pub dc : Long passive w.dc.now
+  pub dv : Long passive w.dv.now
+
 -- without sharpening the slopes are 1, and 0 where held
 unfoldable pub plain_slopes : List Bool → List Float
 plain_slopes passive = tabulate (λ e. choose (get_or passive e false) zero64 one64) (length passive)
-
--- the slopes of the work and of the volume
-pub record SlopesInto (sharpen : Bool) (beta : Float) (energies : List Float) (passive : List Bool) (starts near : List ℕ) (coef density x free dc dv : List Float) : Type 0 where
-  pub work : dc ≡ work_slope starts near coef passive density (seen_slope (choose sharpen (At beta) Off) starts near coef passive x) energies
-  pub volume : dv ≡ choose sharpen (volume_slope starts near coef (seen_slope (choose sharpen (At beta) Off) starts near coef passive x) free) (straight_slope starts near coef free)

@@ -1,2 +1,2 @@
--- `Judged`: what an answer comes to, and what that says of the state.
-pub mod Judged
+-- `Fits`: what a verdict that goes on says of the state and of the checks.
+pub mod Fits

@@ -1,27 +1,29 @@
 // What an answer comes to: 01's order of its checks.
 #![tactic(auto)]
 
-ghost use Rattle.std.specs.Prelude.{◌≡◌, [], ◌∷◌, ◌<◌};
+ghost use Rattle.std.specs.Prelude.{◌≡◌, ℕ};
 ghost use Rattle.lists.specs.Lists.{choose};
 ghost use Rattle.run_plain.specs.Lent.{answer_short};
 ghost use Rattle.run_plain.specs.Formulas.{not_finite, idle as idle_of};
 ghost use Rattle.run_plain.specs.Plain.{judged, Part};
-ghost use Rattle.run_plain.specs.Calls.{in_range, part_of, checks_at};
+ghost use Rattle.run_plain.specs.Calls.{in_range, sound, part_of, checks_at, sizes_in};
+ghost use Rattle.run_plain.specs.Held.{core, working, lengths_of};
 
-use run_plain::{Heard, Phase, Said, State, Verdict};
+use refusal::Refusal;
+use run_plain::{Checks, Elements, Fields, Heard, Phase, Said, Setting, State, Verdict, Work};
 
+#[tactic(auto, unfolding(run_plain::specs::Formulas::not_finite, lists::specs::Lists::any_to))]
 fn not_finite(energies: &[f64]) -> bool
     ensures { result ≡ not_finite energies.now }
 {
     let mut t = false;
-    let mut i = 0usize;
-    while i < energies.len() {
-        t = t | !ieee::is_finite(energies[i]);
-        i += 1usize;
+    for u in energies {
+        t = t | !ieee::is_finite(*u);
     }
     t
 }
 
+#[tactic(auto, unfolding(run_plain::specs::Formulas::idle))]
 fn idle(compliance: f64) -> bool
     ensures { result ≡ idle_of compliance }
 {
@@ -29,6 +31,7 @@ fn idle(compliance: f64) -> bool
 }
 
 // 20's test of a state's numbers.
+#[tactic(auto, unfolding(run_plain::specs::Calls::in_range))]
 fn in_range(state: State) -> bool
     ensures { result ≡ in_range state }
 {
@@ -38,231 +41,118 @@ fn in_range(state: State) -> bool
         & (state.setting.elements <= 65535)
 }
 
+// The same with the rounds: the solid part comes before any, and a round only where one is left.
+#[tactic(auto, unfolding(run_plain::specs::Calls::sound))]
+fn sound(state: State) -> bool
+    ensures { result ≡ sound state }
+{
+    match state.phase {
+        Phase::Idle => true,
+        Phase::Solid => in_range(state) & (state.progress.rounds == 0),
+        Phase::Round => in_range(state) & (state.progress.rounds < state.setting.max_iterations),
+    }
+}
+
+// Whether a list is lent too short, `room` the records that the history has room for.
+#[tactic(auto, unfolding(run_plain::specs::Lent::answer_short, run_plain::specs::Lent::run_short, lent::specs::Lent::short))]
 fn too_short(
-    elements: usize,
-    entries: usize,
-    rounds: usize,
-    volumes: usize,
-    passive: usize,
-    starts: usize,
-    near: usize,
-    coef: usize,
-    design: usize,
-    density: usize,
-    last: usize,
-    history: usize,
-    work1: usize,
-    work2: usize,
-    work3: usize,
-    work4: usize,
-    work5: usize,
+    setting: Setting,
+    elements: Elements,
+    fields: &Fields,
+    room: usize,
+    work: &Work,
 ) -> bool
-    requires { elements < 65536 }
-    ensures { result ≡ answer_short elements entries rounds (record {
-      volumes = volumes;
-      passive = passive;
-      starts = starts;
-      near = near;
-      coef = coef;
-      design = design;
-      density = density;
-      last = last;
-      history = history;
-      work = work1 ∷ work2 ∷ work3 ∷ work4 ∷ work5 ∷ [];
-    }) }
+    ensures { result ≡ answer_short setting.elements setting.entries setting.max_iterations (sizes_in (lengths_of (working work.now)) (core elements.entry fields.now) room) }
 {
-    ((starts < elements + 1)
-        | ((design < elements)
-            | ((density < elements) | ((last < elements) | ((history < rounds) | false)))))
-        | ((volumes < elements)
-            | ((passive < elements) | ((near < entries) | ((coef < entries) | false))))
-        | ((work1 < elements)
-            | ((work2 < elements)
-                | ((work3 < elements) | ((work4 < elements) | ((work5 < elements) | false)))))
+    let n = setting.elements;
+    let entries = setting.entries;
+    (elements.table.starts.len() <= n)
+        | (fields.design.len() < n)
+        | (fields.density.len() < n)
+        | (fields.last.len() < n)
+        | (room < setting.max_iterations)
+        | (elements.volumes.len() < n)
+        | (elements.passive.len() < n)
+        | (elements.table.near.len() < entries)
+        | (elements.table.coef.len() < entries)
+        | (work.free.len() < n)
+        | (work.slope.len() < n)
+        | (work.spare.len() < n)
+        | (work.dc.len() < n)
+        | (work.dv.len() < n)
 }
 
-// An answer to the solid part, `sound` the test of the state's numbers.
-fn of_solid(
-    sound: bool,
-    short: bool,
-    said: Said,
-    stands: bool,
-    count: bool,
-    bad: bool,
-    idle: bool,
-    flag: bool,
-) -> Verdict
-    ensures { result ≡ judged (choose sound Part.solid Part.nothing) (record { short = short; said = said; stands = stands; count = count; bad = bad; idle = idle; flag = flag }) }
+// What an answer to the solid part, or to a round, comes to.
+#[tactic(auto, unfolding(run_plain::specs::Plain::judged, lists::specs::Lists::choose))]
+fn judged(solid: bool, c: Checks) -> Verdict
+    ensures { (n : ℕ) → result ≡ judged (choose solid Part.solid (Part.round n)) c }
 {
-    if !sound {
-        return Verdict::Kept(20);
+    if c.short {
+        return Verdict::Kept(Refusal::ListTooShort);
     }
-    if short {
-        return Verdict::Kept(14);
-    }
-    match said {
-        Said::Halted => {
-            return Verdict::Over(15);
-        }
-        Said::Failed => {
-            return Verdict::Over(18);
-        }
-        Said::Gave => {
-            if count {
-                return Verdict::Over(16);
-            }
-            if bad {
-                return Verdict::Over(17);
-            }
-            if idle {
-                return Verdict::Over(19);
-            }
-            if flag {
-                return Verdict::Over(15);
-            }
-            return Verdict::Begins;
-        }
+    match c.said {
+        Said::Halted if !solid & c.stands => Verdict::Halts,
+        Said::Halted => Verdict::Over(Refusal::Stopped),
+        Said::Failed => Verdict::Over(Refusal::SolverFailed),
+        Said::Gave if c.count => Verdict::Over(Refusal::EnergiesDiffer),
+        Said::Gave if c.bad => Verdict::Over(Refusal::EnergyNotFinite),
+        Said::Gave if !solid => Verdict::Solves,
+        Said::Gave if c.idle => Verdict::Over(Refusal::NoWork),
+        Said::Gave if c.flag => Verdict::Over(Refusal::Stopped),
+        Said::Gave => Verdict::Begins,
     }
 }
 
-// An answer to round n.
-fn of_round(
-    n: usize,
-    sound: bool,
-    short: bool,
-    said: Said,
-    stands: bool,
-    count: bool,
-    bad: bool,
-    idle: bool,
-    flag: bool,
-) -> Verdict
-    ensures { result ≡ judged (choose sound (Part.round n) Part.nothing) (record { short = short; said = said; stands = stands; count = count; bad = bad; idle = idle; flag = flag }) }
+// What an answer is looked at for.
+#[tactic(auto, unfolding(run_plain::specs::Calls::checks_at))]
+fn checks(
+    state: State,
+    heard: Heard,
+    energies: &[f64],
+    elements: Elements,
+    fields: &Fields,
+    room: usize,
+    work: &Work,
+) -> Checks
+    ensures { result ≡ checks_at state (record { heard = heard; energies = energies.now }) (sizes_in (lengths_of (working work.now)) (core elements.entry fields.now) room) }
 {
-    if !sound {
-        return Verdict::Kept(20);
-    }
-    if short {
-        return Verdict::Kept(14);
-    }
-    match said {
-        Said::Halted => {
-            if stands {
-                return Verdict::Halts;
-            }
-            return Verdict::Over(15);
-        }
-        Said::Failed => {
-            return Verdict::Over(18);
-        }
-        Said::Gave => {
-            if count {
-                return Verdict::Over(16);
-            }
-            if bad {
-                return Verdict::Over(17);
-            }
-            return Verdict::Solves;
-        }
+    Checks {
+        short: too_short(state.setting, elements, fields, room, work),
+        said: heard.said,
+        stands: 0 < state.progress.rounds,
+        count: energies.len() != state.setting.elements,
+        bad: not_finite(energies),
+        idle: idle(oc_record::compliance(energies)),
+        flag: heard.flag,
     }
 }
 
 // What an answer comes to; of every list but the energies only the length is looked at.
+#[tactic(auto, unfolding(run_plain::specs::Plain::judged, run_plain::specs::Calls::part_of, lists::specs::Lists::choose))]
 pub fn verdict(
     state: State,
     heard: Heard,
     energies: &[f64],
-    volumes: usize,
-    passive: usize,
-    starts: usize,
-    near: usize,
-    coef: usize,
-    design: usize,
-    density: usize,
-    last: usize,
-    history: usize,
-    work1: usize,
-    work2: usize,
-    work3: usize,
-    work4: usize,
-    work5: usize,
+    elements: Elements,
+    fields: &Fields,
+    room: usize,
+    work: &Work,
 ) -> Verdict
     ensures { result ≡ judged (part_of state) (checks_at state (record { heard = heard; energies = energies.now })
-        (record {
-          volumes = volumes;
-          passive = passive;
-          starts = starts;
-          near = near;
-          coef = coef;
-          design = design;
-          density = density;
-          last = last;
-          history = history;
-          work = work1 ∷ work2 ∷ work3 ∷ work4 ∷ work5 ∷ [];
-        })) }
+        (sizes_in (lengths_of (working work.now)) (core elements.entry fields.now) room)) }
 {
-    let phase = state.phase;
-    let numbers = in_range(state);
-    if !numbers {
-        return Verdict::Kept(20);
+    if !sound(state) {
+        return Verdict::Kept(Refusal::OutOfTurn);
     }
-    let short = too_short(
-        state.setting.elements,
-        state.setting.entries,
-        state.setting.max_iterations,
-        volumes,
-        passive,
-        starts,
-        near,
-        coef,
-        design,
-        density,
-        last,
-        history,
-        work1,
-        work2,
-        work3,
-        work4,
-        work5,
-    );
-    let count = energies.len() != state.setting.elements;
-    let bad = not_finite(energies);
-    let idle = idle(oc_record::compliance(energies));
-    let stands = 0 < state.progress.rounds;
-    let said = heard.said;
-    let flag = heard.flag;
-    match phase {
-        Phase::Idle => {
-            return Verdict::Kept(20);
-        }
-        Phase::Solid => {
-            return of_solid(
-                state.progress.rounds == 0,
-                short,
-                said,
-                stands,
-                count,
-                bad,
-                idle,
-                flag,
-            );
-        }
-        Phase::Round => {
-            let left = state.progress.rounds < state.setting.max_iterations;
-            if !left {
-                return Verdict::Kept(20);
-            }
-            return of_round(
-                state.progress.rounds + 1,
-                true,
-                short,
-                said,
-                stands,
-                count,
-                bad,
-                idle,
-                flag,
-            );
-        }
+    match state.phase {
+        Phase::Idle => Verdict::Kept(Refusal::OutOfTurn),
+        Phase::Solid => judged(
+            true,
+            checks(state, heard, energies, elements, fields, room, work),
+        ),
+        Phase::Round => judged(
+            false,
+            checks(state, heard, energies, elements, fields, room, work),
+        ),
     }
 }

@@ -6,7 +6,9 @@ ghost use Rattle.shape_report.specs.Report.{text_of};
 ghost use Rattle.shape_report.specs.Steps.{Wrote};
 ghost use Rattle.shape.specs.Shape.{outcome_from};
 
+use filter::work::TableMut;
 use refusal::Refusal;
+use run_plain::Fields;
 use std::io;
 use std::io::Read;
 use strip::Job;
@@ -92,56 +94,55 @@ fn run(
         grey: 0.0,
         passes: 0,
     };
-    let mut starts = [0u32; 257];
-    let mut near = [0u32; 4096];
-    let mut coef = [0.0; 4096];
-    let mut design = [0.0; 256];
-    let mut density = [0.0; 256];
-    let mut last = [0.0; 256];
-    let history = [none; 64];
-    let mut energies = [0.0; 256];
-    let mut cell = [[0u64; 3]; 256];
-    let mut order = [0u32; 256];
-    let mut first = [0u32; 257];
-    let mut sorted = [[0.0; 3]; 256];
-    let mut stamp = [0u32; 256];
-    let mut weight = [0.0; 256];
-    let mut found = [0u32; 256];
-    let mut bits = [0u64; 1040];
-    let mut free = [0.0; 256];
-    let mut slope = [0.0; 256];
-    let mut spare = [0.0; 256];
-    let mut dc = [0.0; 256];
-    let mut dv = [0.0; 256];
-    let n = volumes.len();
-    shape_text::text(
-        goal,
+    let job = run_plain::Job {
         volumes,
         centroids,
-        weights,
         passive,
         mirrors,
-        &mut starts,
-        &mut near,
-        &mut coef,
-        &mut design,
-        &mut density,
-        &mut last,
-        history,
+        goal,
+        flag: false,
+    };
+    let table = TableMut {
+        starts: &mut [0; 257],
+        near: &mut [0; 4096],
+        coef: &mut [0.0; 4096],
+    };
+    let fields = Fields {
+        design: &mut [0.0; 256],
+        density: &mut [0.0; 256],
+        last: &mut [0.0; 256],
+    };
+    let mut lists = shape_job::Lists {
+        table,
+        fields,
+        history: &mut [none; 64],
+    };
+    let mut opening = filter::work::Work {
+        cell: &mut [[0; 3]; 256],
+        order: &mut [0; 256],
+        first: &mut [0; 257],
+        sorted: &mut [[0.0; 3]; 256],
+        stamp: &mut [0; 256],
+        weight: &mut [0.0; 256],
+        found: &mut [0; 256],
+        bits: &mut [0; 1040],
+    };
+    let mut answers = run_plain::Work {
+        free: &mut [0.0; 256],
+        slope: &mut [0.0; 256],
+        spare: &mut [0.0; 256],
+        dc: &mut [0.0; 256],
+        dv: &mut [0.0; 256],
+    };
+    let mut energies = [0.0; 256];
+    let n = volumes.len();
+    shape_text::text(
+        job,
+        weights,
+        &mut lists,
         &mut energies[..n],
-        &mut cell,
-        &mut order,
-        &mut first,
-        &mut sorted,
-        &mut stamp,
-        &mut weight,
-        &mut found,
-        &mut bits,
-        &mut free,
-        &mut slope,
-        &mut spare,
-        &mut dc,
-        &mut dv,
+        &mut opening,
+        &mut answers,
         out,
     )
 }
@@ -163,7 +164,7 @@ fn report(job: Job, kept: &[u8], out: &mut [u8]) -> usize
     };
     // A strip that passed so far has at most 16,644 bytes (`reach`), and is kept whole. Were it not, nothing is run.
     if load(kept, &mut passive, lists).is_err() {
-        return shape_report::refused(out, u32::from(Refusal::ListTooShort));
+        return shape_report::refused(out, Refusal::ListTooShort);
     }
     // a job that is admitted has no more than these
     let n = job.elements.min(256);
@@ -191,7 +192,7 @@ fn main(rt: HostRuntime) -> io::Result<()> {
     };
     let end = match strip_job::admitted(answer) {
         Ok(job) => report(job, &kept[..input.at], &mut out),
-        Err(why) => shape_report::refused(&mut out, u32::from(why)),
+        Err(why) => shape_report::refused(&mut out, why),
     };
     rt.write_all(&out[..end])
 }

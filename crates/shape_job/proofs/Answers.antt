@@ -1,14 +1,17 @@
--- Laws of answers one after the other. Assumes nothing.
+-- Laws of answers one after the other, and of an opening. Assumes nothing.
 use mathlib.Core.Path.{◌≡◌, refl, sym, ap, ◌∙◌}
-use mathlib.Core.Bool.{true, false}
-use mathlib.Core.List.{List, [], ◌∷◌}
-use Prim.Native.Nat.{ℕ, zero, suc, ◌-◌, ◌<◌}
-use native.Mathlib.Omega.{arith}
-use lib.ListN.{length}
+use mathlib.Core.Bool.{Bool, true, false}
+use mathlib.Core.List.{List}
+use Prim.Native.Nat.{ℕ, zero, suc}
 use lib.Ieee.{Float}
 use Rattle.lists.proofs.Laws.{choose-true, choose-false}
-use Rattle.run_plain.specs.Calls.{Result, answer_of}
-use Rattle.run_answer.specs.Answers.{Work, lengths_of}
+use Rattle.lists.specs.Lists.{choose}
+use Rattle.run_plain.specs.Opening.{Opening, Entry, Kept as KeptOut, Zeroed, Shut, Opens, entry_of}
+use Rattle.run_plain.specs.Calls.{Lists, Result, answer_of, Asked, opening_of, zeroed_lists, open_by, in_turn, open_of, keeps}
+use Rattle.run_plain.specs.declared.State.{State}
+use Rattle.run_plain.specs.declared.Returned.{Returned}
+use Rattle.shape_job.specs.Held.{result_in}
+use Rattle.topo.specs.declared.Iteration.{Iteration}
 use Rattle.shape_job.specs.Job.{answer_to, asks, answers_from}
 
 pub answers-none : (weights : List Float) (n : ℕ) (work : List ℕ) (k : ℕ) (r : Result) → k ≡ 0 → r ≡ answers_from weights n work k r
@@ -22,23 +25,32 @@ answers-over weights n work zero r e = refl
 answers-over weights n work (suc k) r e = sym (choose-false _ _ _ e)
 
 -- one more answer, by lists of the same lengths
-pub answers-more : (weights : List Float) (n n' : ℕ) (work work' : List ℕ) (k : ℕ) (r next : Result) → n ≡ n' → work ≡ work' → asks r.reply ≡ true → 0 < k
-    → next ≡ answer_of r.state (answer_to weights n r.lists.density) work r.lists → answers_from weights n' work' (k - 1) next ≡ answers_from weights n' work' k r
+pub answers-more : (weights : List Float) (n n' : ℕ) (work work' : List ℕ) (k j : ℕ) (r next : Result) → n ≡ n' → work ≡ work' → asks r.reply ≡ true → k ≡ suc j
+    → next ≡ answer_of r.state (answer_to weights n r.lists.density) work r.lists → answers_from weights n' work' j next ≡ answers_from weights n' work' k r
 unfolding answers_from
-answers-more weights n n' work work' zero r next en ew t h e = absurd (omega arith)
-answers-more weights n n' work work' (suc k) r next en ew t h e =
-    let j : suc k - 1 ≡ k = omega arith in
-    (λ i. answers_from weights n' work' (j i) (e i))
-    ∙ (λ i. answers_from weights n' work' k (answer_of r.state (answer_to weights (en i) r.lists.density) (ew i) r.lists))
+answers-more weights n n' work work' k j r next en ew t h e =
+    ap (answers_from weights n' work' j) e
+    ∙ (λ i. answers_from weights n' work' j (answer_of r.state (answer_to weights (en i) r.lists.density) (ew i) r.lists))
     ∙ sym (choose-true _ _ _ t)
+    ∙ ap (λ (m : ℕ). answers_from weights n' work' m r) (sym h)
 
--- working lists as long as those before
-pub record Long (w w' : Work) : Type 0 where
-  pub free : length w.free ≡ length w'.free
-  pub slope : length w.slope ≡ length w'.slope
-  pub spare : length w.spare ≡ length w'.spare
-  pub dc : length w.dc ≡ length w'.dc
-  pub dv : length w.dv ≡ length w'.dv
+-- ---- an opening leaves the last record's densities as they are
+open-by-last : (s : State) (o : Opening) (l : Lists) (v : Entry) → (open_by s o l v).lists.last ≡ l.last
+unfolding zeroed_lists
+open-by-last s o l (KeptOut n) = refl
+open-by-last s o l (Zeroed n) = refl
+open-by-last s o l Shut = refl
+open-by-last s o l Opens = refl
 
-pub same_lengths : (w w' : Work) → Long w w' → lengths_of w ≡ lengths_of w'
-same_lengths w w' e i = e.free i ∷ e.slope i ∷ e.spare i ∷ e.dc i ∷ e.dv i ∷ []
+pub open-last : (s : State) (g : Asked) (work : List ℕ) (l : Lists) → (open_of s g work l).lists.last ≡ l.last
+unfolding open_of choose
+open-last s g work l = go (in_turn s.phase)
+  where
+    go : (t : Bool) → (choose t (open_by s (opening_of g work l) l (entry_of (opening_of g work l))) (keeps s 20 l)).lists.last ≡ l.last
+    go true = open-by-last s (opening_of g work l) l (entry_of (opening_of g work l))
+    go false = refl
+
+-- the same lists, of a design and densities that are the same
+pub with-fields : (r : Returned) (v : List Float) (p : List Bool) (s n : List ℕ) (c : List Float) {d d' q q' l l' : List Float} (h : List Iteration) → d ≡ d' → q ≡ q' → l ≡ l'
+    → result_in r (record { volumes = v; passive = p; starts = s; near = n; coef = c; design = d; density = q; last = l; history = h }) ≡ result_in r (record { volumes = v; passive = p; starts = s; near = n; coef = c; design = d'; density = q'; last = l'; history = h })
+with-fields r v p s n c h d q l i = result_in r (record { volumes = v; passive = p; starts = s; near = n; coef = c; design = d i; density = q i; last = l i; history = h })

@@ -3,22 +3,19 @@
 use Rattle.std.specs.Prelude.{Bool, true, false, List, ℕ, zero, suc, Float}
 use Rattle.lists.specs.Lists.{choose}
 use Rattle.run_plain.specs.declared.Said.TheVariants.{Gave}
-use Rattle.run_plain.specs.declared.Reply.{Reply}
-use Rattle.run_plain.specs.declared.Reply.TheVariants.{Refused, Solid, Round, Stop}
-use Rattle.run_plain.specs.Calls.{Lists, Core, Arguments, Result, lists_of, answer_of, Asked, open_of, fresh}
+use Rattle.run_plain.specs.Calls.{Lists, Arguments, Result, Replied, refuses, asks_solid, asks_round, ends, answer_of, Asked, open_of, fresh}
 use Rattle.shape_solver.specs.Energies.{energies_of}
-use Rattle.shape_calls.specs.declared.Turn.{Turn}
 
 -- "solves by energy = weight/(2·modulus(level, 1)), never stopping or running out of time": the answer to densities asked for, n elements
 abbrev pub answer_to : List Float → ℕ → List Float → Arguments
 answer_to weights n density = record { heard = record { said = Gave; flag = false; elapsed = 0; allowed = 1 }; energies = energies_of weights density n }
 
 -- whether a part is asked for
-abbrev pub asks : Reply → Bool
-asks (Refused n) = false
-asks Solid = true
-asks (Round n) = true
-asks (Stop why) = false
+abbrev pub asks : Replied → Bool
+asks (refuses n) = false
+asks asks_solid = true
+asks (asks_round n) = true
+asks (ends why) = false
 
 -- at most k answers, one after the other as long as a part is asked for; `work` has the lengths of the working lists
 unfoldable pub answers_from : List Float → ℕ → List ℕ → ℕ → Result → Result
@@ -29,7 +26,3 @@ answers_from weights n work (suc k) r =
 -- a job: the opening on a fresh state, and the answers to the solid part and at most 64 rounds
 unfoldable pub job_of : List Float → ℕ → List ℕ → List ℕ → Asked → Lists → Result
 job_of weights n open_work work g l = answers_from weights n work 65 (open_of fresh g open_work l)
-
--- what a call with the history held by value returns and leaves
-abbrev pub result_in : Turn → Core → Result
-result_in t l = record { state = t.returned.state; reply = t.returned.reply; lists = lists_of l t.history }

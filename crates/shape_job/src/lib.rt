@@ -1,231 +1,198 @@
 // A job run from its lists: the opening, and the answers of the solver until the run ends.
 #![tactic(auto)]
 
-ghost use Rattle.std.specs.Prelude.{◌≡◌, false, length};
-ghost use Rattle.run_plain.specs.Calls.{lists_of, answer_of, fresh as fresh_state};
-ghost use Rattle.run_answer.specs.Answers.{lengths_of};
-ghost use Rattle.run_open_checks.specs.Opens.{lengths_of as open_lengths};
-ghost use Rattle.shape_job.specs.Job.{asks as asks_of, answer_to, answers_from, job_of, result_in};
+ghost use Rattle.std.specs.Prelude.{◌≡◌, length};
+ghost use Rattle.filter.specs.Build.{work_lengths};
+ghost use Rattle.filter.specs.Held.{working as open_working, SameTable, SameWork as SameOpenWork};
+ghost use Rattle.run_plain.specs.Calls.{lists_of, replied, answer_of, open_of, fresh as fresh_state};
+ghost use Rattle.run_plain.specs.Held.{asked, core, working, lengths_of, SameFields, SameWork};
+ghost use Rattle.shape_solver.specs.Energies.{energies_of};
+ghost use Rattle.shape_job.specs.Held.{lists_by, lists_in, result_in, SameLists};
+ghost use Rattle.shape_job.specs.Job.{asks as asks_of, answer_to, answers_from, job_of};
 
-use run_plain::{Compliances, Heard, Phase, Progress, Reply, Said, Setting, State};
-use shape_calls::Turn;
-use topo::{Goal, Iteration, Sharpening};
+use filter::work::TableMut;
+use filter_table::Table;
+use run_plain::{Elements, Fields, Heard, Job, OpenFields, Reply, Returned, Said, State, Work};
+use topo::Iteration;
 
-// No run is open.
-pub fn fresh() -> State
-    ensures { result ≡ fresh_state }
-{
-    State {
-        phase: Phase::Idle,
-        setting: Setting {
-            elements: 0,
-            entries: 0,
-            fraction: 0.0,
-            sharpen: Sharpening::Off,
-            max_iterations: 0,
-        },
-        progress: Progress {
-            rounds: 0,
-            stage: 0,
-            at_stage: 0,
-            steady: 0,
-        },
-        compliances: Compliances {
-            solid: 0.0,
-            last: 0.0,
-        },
-    }
+// The lists that a run writes: the filter's table, the design with both densities, and the records.
+#[derive(Drop)]
+pub struct Lists<'a> {
+    pub table: TableMut<'a>,
+    pub fields: Fields<'a>,
+    pub history: &'a mut [Iteration],
 }
+
+// The solid part and 64 rounds are answered at most.
+const ANSWERS: usize = 65;
 
 // Whether a part is asked for.
 fn asks(reply: Reply) -> bool
-    ensures { result ≡ asks_of reply }
+    ensures { result ≡ asks_of (replied reply) }
 {
-    match reply {
-        Reply::Refused(_) => false,
-        Reply::Solid => true,
-        Reply::Round(_) => true,
-        Reply::Stop(_) => false,
-    }
+    matches!(reply, Reply::Solid | Reply::Round(_))
 }
 
-// The solver's answer to the densities asked for, one energy for each place of `energies`.
-fn turn(
-    t: Turn,
-    weights: &[f64],
-    volumes: &[f64],
-    passive: &[bool],
-    starts: &[u32],
-    near: &[u32],
-    coef: &[f64],
-    design: &mut [f64],
-    density: &mut [f64],
-    last: &mut [f64],
-    energies: &mut [f64],
-    free: &mut [f64],
-    slope: &mut [f64],
-    spare: &mut [f64],
-    dc: &mut [f64],
-    dv: &mut [f64],
-) -> Turn
-    ensures { result_in result (record { volumes = volumes.now; passive = passive.now; starts = starts.now; near = near.now; coef = coef.now; design = design.new; density = density.new; last = last.new })
-        ≡ answer_of t.returned.state (answer_to weights.now (length energies.old) density.old)
-        (lengths_of (record { free = free.old; slope = slope.old; spare = spare.old; dc = dc.old; dv = dv.old }))
-        (lists_of (record { volumes = volumes.now; passive = passive.now; starts = starts.now; near = near.now; coef = coef.now; design = design.old; density = density.old; last = last.old }) t.history) }
+// The solver's energies at the densities asked for, one for each place of `energies`.
+fn solve(weights: &[f64], fields: &Fields, energies: &mut [f64])
+    ensures { energies.new ≡ energies_of weights.now fields.now.density.now (length energies.old) }
 {
-    shape_solver::solve(weights, &density[..], energies);
-    let returned = t.returned;
-    let history = t.history;
+    let density = &*fields.density;
+    shape_solver::solve(weights, density, energies);
+}
+
+// The solver's answer to the densities asked for.
+fn turn(
+    state: State,
+    weights: &[f64],
+    elements: Elements,
+    fields: &mut Fields,
+    history: &mut [Iteration],
+    energies: &mut [f64],
+    work: &mut Work,
+) -> Returned
+    ensures answered { result_in result (lists_of (core elements.entry fields.new) history.new)
+        ≡ answer_of state (answer_to weights.now (length energies.old) fields.old.density.now) (lengths_of (working work.old)) (lists_of (core elements.entry fields.old) history.old) }
+    ensures same_fields { SameFields fields.old fields.new }
+    ensures same_work { SameWork work.old work.new }
+    ensures same_lengths { lengths_of (working work.new) ≡ lengths_of (working work.old) }
+{
+    solve(weights, &*fields, energies);
     let heard = Heard {
         said: Said::Gave,
         flag: false,
         elapsed: 0,
         allowed: 1,
     };
-    shape_calls::answer(
-        returned.state,
-        heard,
-        &energies[..],
-        volumes,
-        passive,
-        starts,
-        near,
-        coef,
-        design,
-        density,
-        last,
-        history,
-        free,
-        slope,
-        spare,
-        dc,
-        dv,
-    )
+    run::answer(state, heard, &energies[..], elements, fields, history, work)
 }
 
-// At most k answers, as long as a part is asked for.
+// The solver's answers one after the other, as long as a part is asked for.
 fn rounds(
-    k: usize,
-    start: Turn,
+    start: Returned,
     weights: &[f64],
-    volumes: &[f64],
-    passive: &[bool],
-    starts: &[u32],
-    near: &[u32],
-    coef: &[f64],
-    design: &mut [f64],
-    density: &mut [f64],
-    last: &mut [f64],
+    elements: Elements,
+    fields: &mut Fields,
+    history: &mut [Iteration],
     energies: &mut [f64],
-    free: &mut [f64],
-    slope: &mut [f64],
-    spare: &mut [f64],
-    dc: &mut [f64],
-    dv: &mut [f64],
-) -> Turn
-    ensures { result_in result (record { volumes = volumes.now; passive = passive.now; starts = starts.now; near = near.now; coef = coef.now; design = design.new; density = density.new; last = last.new })
-        ≡ answers_from weights.now (length energies.old)
-        (lengths_of (record { free = free.old; slope = slope.old; spare = spare.old; dc = dc.old; dv = dv.old }))
-        k
-        (result_in start (record { volumes = volumes.now; passive = passive.now; starts = starts.now; near = near.now; coef = coef.now; design = design.old; density = density.old; last = last.old })) }
+    work: &mut Work,
+) -> Returned
+    ensures answered { result_in result (lists_of (core elements.entry fields.new) history.new)
+        ≡ answers_from weights.now (length energies.old) (lengths_of (working work.old)) 65 (result_in start (lists_of (core elements.entry fields.old) history.old)) }
+    ensures same_fields { SameFields fields.old fields.new }
+    ensures same_work { SameWork work.old work.new }
 {
-    let mut t = start;
-    let mut left = k;
-    while left > 0 {
-        let returned = t.returned;
-        let reply = returned.reply;
-        if asks(reply) {
-            t = turn(
-                t, weights, volumes, passive, starts, near, coef, design, density, last, energies,
-                free, slope, spare, dc, dv,
-            );
-            left -= 1usize;
-        } else {
-            return t;
+    let mut returned = start;
+    for _ in 0..ANSWERS {
+        if !asks(returned.reply) {
+            return returned;
         }
+        returned = turn(
+            returned.state,
+            weights,
+            elements,
+            fields,
+            history,
+            energies,
+            work,
+        );
     }
-    t
+    returned
 }
 
-// A job. It has as many elements as `energies` has places; the eight lists from `cell` on are the opening's for its own use, and the last five the
-// answers'.
-pub fn run(
-    goal: Goal,
-    volumes: &[f64],
-    centroids: &[[f64; 3]],
-    weights: &[f64],
-    passive: &[bool],
-    mirrors: &[[f64; 6]],
-    starts: &mut [u32],
-    near: &mut [u32],
-    coef: &mut [f64],
-    design: &mut [f64],
-    density: &mut [f64],
-    last: &mut [f64],
-    history: [Iteration; 64],
-    energies: &mut [f64],
-    cell: &mut [[u64; 3]],
-    order: &mut [u32],
-    first: &mut [u32],
-    sorted: &mut [[f64; 3]],
-    stamp: &mut [u32],
-    weight: &mut [f64],
-    found: &mut [u32],
-    bits: &mut [u64],
-    free: &mut [f64],
-    slope: &mut [f64],
-    spare: &mut [f64],
-    dc: &mut [f64],
-    dv: &mut [f64],
-) -> Turn
-    ensures { result_in result (record { volumes = volumes.now; passive = passive.now; starts = starts.new; near = near.new; coef = coef.new; design = design.new; density = density.new; last = last.new })
-        ≡ job_of weights.now (length energies.old)
-        (open_lengths (record { cell = cell.old; order = order.old; first = first.old; sorted = sorted.old; stamp = stamp.old; weight = weight.old; found = found.old; bits = bits.old }))
-        (lengths_of (record { free = free.old; slope = slope.old; spare = spare.old; dc = dc.old; dv = dv.old }))
-        (record { centroids = centroids.now; mirrors = mirrors.now; goal = goal; flag = false })
-        (lists_of (record { volumes = volumes.now; passive = passive.now; starts = starts.old; near = near.old; coef = coef.old; design = design.old; density = density.old; last = last.old }) history) }
+// The table as answers read it.
+fn made<'a>(table: &'a TableMut<'_>) -> Table<'a>
+    ensures starts { result.starts.now ≡ table.now.starts.now }
+    ensures near { result.near.now ≡ table.now.near.now }
+    ensures coef { result.coef.now ≡ table.now.coef.now }
 {
-    let t = shape_calls::open(
-        fresh(),
-        goal,
-        false,
-        volumes,
-        centroids,
-        passive,
-        mirrors,
-        starts,
-        near,
-        coef,
-        design,
-        density,
-        &last[..],
-        history,
-        cell,
-        order,
-        first,
-        sorted,
-        stamp,
-        weight,
-        found,
-        bits,
+    Table {
+        starts: &*table.starts,
+        near: &*table.near,
+        coef: &*table.coef,
+    }
+}
+
+// The opening.
+fn open(
+    job: Job,
+    table: &mut TableMut,
+    fields: &mut Fields,
+    history: &mut [Iteration],
+    work: &mut filter::work::Work,
+) -> Returned
+    ensures opened { result_in result (lists_by job.entry table.new.starts.now table.new.near.now table.new.coef.now fields.new history.new)
+        ≡ open_of fresh_state (asked job.entry) (work_lengths (open_working work.old)) (lists_by job.entry table.old.starts.now table.old.near.now table.old.coef.now fields.old history.old) }
+    ensures same_table { SameTable table.old table.new }
+    ensures same_fields { SameFields fields.old fields.new }
+    ensures same_work { SameOpenWork work.old work.new }
+{
+    let last = &mut *fields.last;
+    let mut written = OpenFields {
+        design: &mut *fields.design,
+        density: &mut *fields.density,
+        last: &last[..],
+    };
+    run::open(State::fresh(), job, table, &mut written, history, work)
+}
+
+// The answers to what an opening asks.
+// Stays a function with eight parameters: tried in `run`, where these stand, the borrow checker did not cover one `Elements` of the job's own lists and
+// the table that the opening wrote, nor a function that made it.
+fn answer_all(
+    opened: Returned,
+    job: Job,
+    weights: &[f64],
+    table: Table,
+    fields: &mut Fields,
+    history: &mut [Iteration],
+    energies: &mut [f64],
+    work: &mut Work,
+) -> Returned
+    ensures answered { result_in result (lists_by job.entry table.entry.starts.now table.entry.near.now table.entry.coef.now fields.new history.new)
+        ≡ answers_from weights.now (length energies.old) (lengths_of (working work.old)) 65 (result_in opened (lists_by job.entry table.entry.starts.now table.entry.near.now table.entry.coef.now fields.old history.old)) }
+    ensures same_fields { SameFields fields.old fields.new }
+    ensures same_work { SameWork work.old work.new }
+{
+    let elements = Elements {
+        volumes: &job.volumes[..],
+        passive: &job.passive[..],
+        table,
+    };
+    rounds(opened, weights, elements, fields, history, energies, work)
+}
+
+// A job. It has as many elements as `energies` has places; `opening` and `answers` are working lists.
+pub fn run(
+    job: Job,
+    weights: &[f64],
+    lists: &mut Lists,
+    energies: &mut [f64],
+    opening: &mut filter::work::Work,
+    answers: &mut Work,
+) -> Returned
+    ensures ran { result_in result (lists_in job.entry lists.new)
+        ≡ job_of weights.now (length energies.old) (work_lengths (open_working opening.old)) (lengths_of (working answers.old)) (asked job.entry) (lists_in job.entry lists.old) }
+    ensures same_lists { SameLists lists.old lists.new }
+    ensures same_opening { SameOpenWork opening.old opening.new }
+    ensures same_answers { SameWork answers.old answers.new }
+{
+    let opened = open(
+        job,
+        &mut lists.table,
+        &mut lists.fields,
+        &mut *lists.history,
+        opening,
     );
-    rounds(
-        65,
-        t,
+    let table = made(&lists.table);
+    answer_all(
+        opened,
+        job,
         weights,
-        volumes,
-        passive,
-        &starts[..],
-        &near[..],
-        &coef[..],
-        design,
-        density,
-        last,
+        table,
+        &mut lists.fields,
+        &mut *lists.history,
         energies,
-        free,
-        slope,
-        spare,
-        dc,
-        dv,
+        answers,
     )
 }

@@ -1,4 +1,5 @@
 -- A job ends: after the answers to the solid part and the rounds allowed no part is asked for. Assumes nothing.
+use Rattle.std.specs.Prelude.{Option, Some, None}
 use mathlib.Core.Path.{◌≡◌, refl, sym, ap, ◌∙◌}
 use mathlib.Core.Bool.{Bool, true, false}
 use mathlib.Core.List.{List}
@@ -14,12 +15,10 @@ use Rattle.run_plain.specs.declared.Phase.TheVariants.{Idle, Solid, Round}
 use Rattle.run_plain.specs.declared.State.{State}
 use Rattle.run_plain.specs.declared.Verdict.{Verdict}
 use Rattle.run_plain.specs.declared.Verdict.TheVariants.{Kept, Over, Halts, Begins, Solves}
-use Rattle.run_plain.specs.declared.Course.{Course}
-use Rattle.run_plain.specs.declared.Course.TheVariants.{Onward, Ends}
-use Rattle.run_plain.specs.declared.Entry.{Entry}
-use Rattle.run_plain.specs.declared.Entry.TheVariants.{Kept as KeptOut, Zeroed, Shut, Opens}
-use Rattle.run_plain.specs.Opening.{Opening, entry_of}
-use Rattle.run_plain.specs.Plain.{Part, nothing, solid, round, Checks, Stops}
+use Rattle.topo.specs.declared.Stop.{Stop}
+use Rattle.run_plain.specs.declared.Checks.{Checks}
+use Rattle.run_plain.specs.Opening.{Opening, Entry, Kept as KeptOut, Zeroed, Shut, Opens, entry_of}
+use Rattle.run_plain.specs.Plain.{Part, nothing, solid, round, Stops}
 use Rattle.run_plain.specs.Runs.{Judge, short_solid, halted_solid, failed_solid, count_solid, bad_solid, idle_solid, flag_solid, begun, short_round, halted_first, halted_later, failed_round, count_round, bad_round, solved, out_of_turn, First, settled, levelled, limit, budget, stopped, goes_on}
 use Rattle.run_plain.specs.Calls.{Lists, Arguments, Result, sizes_of, sound, part_in, part_of, checks_at, answer_by, answer_of, solved_by, stops_at, record_in, Asked, opening_of, open_by, open_of, fresh}
 use Rattle.run_plain.proofs.Verdicts.{first-is, judge-is}
@@ -108,7 +107,7 @@ solved-round _ c _ (bad_round x y z' w) e = let z : ◌≡◌ {A = ℕ} 0 1 = cc
 solved-round _ c _ (solved {n} x) e = record { number = n; is = refl }
 
 -- a round that goes on is not the last allowed
-not_last : (t : Stops) (c : Course) → First t c → c ≡ Onward → t.limit ≡ false
+not_last : (t : Stops) (c : Option Stop) → First t c → c ≡ None → t.limit ≡ false
 not_last t _ (settled x y) e = let z : ◌≡◌ {A = ℕ} 0 1 = cc in absurd (omega arith)
 not_last t _ (levelled x y z') e = let z : ◌≡◌ {A = ℕ} 0 1 = cc in absurd (omega arith)
 not_last t _ (limit x y z') e = let z : ◌≡◌ {A = ℕ} 0 1 = cc in absurd (omega arith)
@@ -117,11 +116,11 @@ not_last t _ (stopped x y z' w v) e = let z : ◌≡◌ {A = ℕ} 0 1 = cc in ab
 not_last t _ (goes_on x y z' w v) e = z'
 
 -- ---- one answer
-solved-next : (s : State) (a : Arguments) (l : Lists) (b : ℕ) (c : Course) → Going s b → s.phase ≡ Round → First (stops_at s a.heard (record_in s a l)) c → asks (solved_by s a l c).reply ≡ true → Next (solved_by s a l c).state b
+solved-next : (s : State) (a : Arguments) (l : Lists) (b : ℕ) (c : Option Stop) → Going s b → s.phase ≡ Round → First (stops_at s a.heard (record_in s a l)) c → asks (solved_by s a l c).reply ≡ true → Next (solved_by s a l c).state b
 unfolding stops_at
-solved-next s a l b (Ends why) g p f e = absurd_of e
-solved-next s a l b Onward (first q z h) p f e = let z : ◌≡◌ {A = ℕ} 0 1 = cc in absurd (omega arith)
-solved-next s a l b Onward (later q h) p f e =
+solved-next s a l b (Some why) g p f e = absurd_of e
+solved-next s a l b None (first q z h) p f e = let z : ◌≡◌ {A = ℕ} 0 1 = cc in absurd (omega arith)
+solved-next s a l b None (later q h) p f e =
     let k : suc s.progress.rounds < s.setting.max_iterations = leb-false s.setting.max_iterations (suc s.progress.rounds) (not_last _ _ f refl) in
     record { few = s.setting.max_iterations - suc s.progress.rounds; going = later refl k; fewer = omega arith }
 

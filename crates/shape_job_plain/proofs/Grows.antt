@@ -1,4 +1,5 @@
 -- No call shortens a list, so lists lent whole come back whole. Assumes nothing.
+use Rattle.std.specs.Prelude.{Option, Some, None}
 use mathlib.Core.Path.{◌≡◌, refl, ap, ◌∙◌}
 use mathlib.Core.Bool.{Bool, true, false}
 use mathlib.Core.List.{List, [], ◌∷◌, ◌++◌, append-nil}
@@ -11,11 +12,8 @@ use Rattle.lists.specs.Lists.{choose, zero64, overlay}
 use Rattle.run_plain.specs.declared.State.{State}
 use Rattle.run_plain.specs.declared.Verdict.{Verdict}
 use Rattle.run_plain.specs.declared.Verdict.TheVariants.{Kept, Over, Halts, Begins, Solves}
-use Rattle.run_plain.specs.declared.Course.{Course}
-use Rattle.run_plain.specs.declared.Course.TheVariants.{Onward, Ends}
-use Rattle.run_plain.specs.declared.Entry.{Entry}
-use Rattle.run_plain.specs.declared.Entry.TheVariants.{Kept as KeptOut, Zeroed, Shut, Opens}
-use Rattle.run_plain.specs.Opening.{Opening, entry_of}
+use Rattle.topo.specs.declared.Stop.{Stop}
+use Rattle.run_plain.specs.Opening.{Opening, Entry, Kept as KeptOut, Zeroed, Shut, Opens, entry_of}
 use Rattle.run_plain.specs.Plain.{judged, first_stop}
 use Rattle.run_plain.specs.Calls.{Lists, Arguments, sizes_of, part_of, checks_at, answer_by, answer_of, solved_by, stops_at, record_in, Asked, opening_of, open_by, open_of, in_turn, keeps, zeroed_lists, lend, give_back}
 
@@ -59,10 +57,10 @@ wiped z l =
     omega arith
 
 -- ---- an answer
-solved-grows : (s : State) (a : Arguments) (l : Lists) (c : Course) → Grown l (solved_by s a l c).lists
-solved-grows s a l (Ends why) =
+solved-grows : (s : State) (a : Arguments) (l : Lists) (c : Option Stop) → Grown l (solved_by s a l c).lists
+solved-grows s a l (Some why) =
     record { volumes = le_refl _; passive = le_refl _; starts = le_refl _; near = le_refl _; coef = le_refl _; design = over _ l.design; density = le_refl _; last = over _ l.last; history = put l.history s.progress.rounds (record_in s a l) }
-solved-grows s a l Onward =
+solved-grows s a l None =
     record { volumes = le_refl _; passive = le_refl _; starts = le_refl _; near = le_refl _; coef = le_refl _; design = over _ l.design; density = over _ l.density; last = over _ l.last; history = put l.history s.progress.rounds (record_in s a l) }
 
 by-grows : (s : State) (a : Arguments) (l : Lists) (v : Verdict) → Grown l (answer_by s a l v).lists

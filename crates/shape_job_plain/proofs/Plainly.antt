@@ -6,10 +6,8 @@ use Prim.Native.Nat.{ℕ, zero, suc}
 use lib.Ieee.{Float}
 use Rattle.lists.specs.Lists.{choose}
 use Rattle.lists.proofs.Laws.{choose-true, choose-false}
-use Rattle.run_plain.specs.declared.Reply.{Reply}
-use Rattle.run_plain.specs.declared.Reply.TheVariants.{Refused, Solid, Round, Stop}
 use Rattle.run_plain.specs.Plain.{Out, plain_run}
-use Rattle.run_plain.specs.Calls.{Lists, Result, World, Call, Asked, sizes_of, answer_of, open_of, opening_of, result_of, world_after, out_of, calls_from, calls_shut, calls_by, calls_run, fed, fresh, lend}
+use Rattle.run_plain.specs.Calls.{Lists, Replied, refuses, asks_solid, asks_round, ends, Result, World, Call, Asked, sizes_of, answer_of, open_of, opening_of, result_of, world_after, out_of, calls_from, calls_shut, calls_by, calls_run, fed, fresh, lend}
 use Rattle.run_plain.proofs.Whole.{whole}
 use Rattle.shape_job.specs.Job.{answer_to, asks, answers_from, job_of}
 use Rattle.shape_job.proofs.Answers.{answers-over}
@@ -60,13 +58,13 @@ none-taken weights n work zero r e = refl
 none-taken weights n work (suc k) r e = choose-false _ _ _ e
 
 -- an opening's first showing, whatever it replies
-last-by : (weights : List Float) (n : ℕ) (work : List ℕ) (k : ℕ) (d : Out) (r : Result) (q : Reply) → r.reply ≡ q
+last-by : (weights : List Float) (n : ℕ) (work : List ℕ) (k : ℕ) (d : Out) (r : Result) (q : Replied) → r.reply ≡ q
     → last_out d (calls_by (world r) (taken weights n work k r) q (out_of r)) ≡ out_of (answers_from weights n work k r)
 unfolding last_out calls_shut
-last-by weights n work k d r Solid e = last-from weights n work k r
-last-by weights n work k d r (Round m) e = last-from weights n work k r
-last-by weights n work k d r (Stop why) e = last-from weights n work k r
-last-by weights n work k d r (Refused m) e =
+last-by weights n work k d r asks_solid e = last-from weights n work k r
+last-by weights n work k d r (asks_round m) e = last-from weights n work k r
+last-by weights n work k d r (ends why) e = last-from weights n work k r
+last-by weights n work k d r (refuses m) e =
     ap (λ (c : List Call). last_out (out_of r) (calls_shut (world r) c)) (none-taken weights n work k r (ap asks e)) ∙ ap out_of (answers-over weights n work k r (ap asks e))
 
 pub plainly : (weights : List Float) (n : ℕ) (open_work work : List ℕ) (g : Asked) (l : Lists) → Plainly weights n open_work work g l

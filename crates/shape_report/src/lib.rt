@@ -4,17 +4,19 @@
 
 mod parts;
 
+ghost use Rattle.refusal.specs.Refusals.{number_of};
 ghost use Rattle.shape_report.specs.Report.{text_of, refused as refused_text, ran as ran_text};
 ghost use Rattle.shape_report.specs.Steps.{Wrote};
 
+use refusal::Refusal;
 use topo::{Iteration, Stop};
 
-// A refusal.
-pub fn refused(out: &mut [u8], number: u32) -> usize
-    ensures { Wrote (text_of (refused_text number)) 0 out.old out.new result }
+// A refusal, by its number.
+pub fn refused(out: &mut [u8], refusal: Refusal) -> usize
+    ensures { Wrote (text_of (refused_text (number_of refusal))) 0 out.old out.new result }
 {
     let a = parts::words(out, 0, b"refused ");
-    let b = parts::decimal(out, a, number as u64);
+    let b = parts::decimal(out, a, u64::from(u32::from(refusal)));
     parts::words(out, b, b"\n")
 }
 

@@ -5,6 +5,9 @@ ghost use Rattle.shape_report.specs.Steps.{Wrote};
 
 use topo::{Iteration, Stop};
 
+// Stays, here and below, that the place is in the list or at its end: the list is lent and the place moves on, and a struct of both would be lent in turn, with a
+// clause more in each contract that it holds the same list.
+#[tactic(auto, unfolding(crate::specs::Steps::laid))]
 fn byte(out: &mut [u8], at: usize, b: u8) -> usize
     requires { at ≤ length out.old }
     ensures { Wrote (b ∷ []) at out.old out.new result }
@@ -16,6 +19,7 @@ fn byte(out: &mut [u8], at: usize, b: u8) -> usize
     at
 }
 
+#[tactic(auto, using(crate::proofs::Laws::nothing, crate::proofs::Laws::within))]
 pub fn words(out: &mut [u8], at: usize, text: &[u8]) -> usize
     requires { at ≤ length out.old }
     ensures { Wrote text.now at out.old out.new result }
@@ -39,6 +43,8 @@ fn digit(d: u64) -> u8
     }
 }
 
+// Stays by hand, as `decimal` below: tried by `write!` into the lent list, and the proof didn't close, neither that the padded hexadecimal text is
+// `hex`, nor that what the calls of `write_str` write one after the other is the whole text.
 fn hex(out: &mut [u8], at: usize, k: usize, n: u64) -> usize
     requires { at ≤ length out.old }
     ensures { Wrote (hex_of k n) at out.old out.new result }
@@ -50,6 +56,7 @@ fn hex(out: &mut [u8], at: usize, k: usize, n: u64) -> usize
     byte(out, next, digit(n % 16))
 }
 
+// Stays by hand: tried by `write!` into the lent list, and the proof didn't close, as at `hex`.
 pub fn decimal(out: &mut [u8], at: usize, n: u64) -> usize
     requires { at ≤ length out.old }
     ensures { Wrote (decimal_of n) at out.old out.new result }
@@ -85,6 +92,7 @@ pub fn solid_line(out: &mut [u8], work: f64) -> usize
     words(out, b, b"\n")
 }
 
+#[tactic(auto, using(crate::proofs::Laws::within))]
 fn round_line(out: &mut [u8], at: usize, r: Iteration) -> usize
     requires { at ≤ length out.old }
     ensures { Wrote (round_line r) at out.old out.new result }
@@ -101,6 +109,7 @@ fn round_line(out: &mut [u8], at: usize, r: Iteration) -> usize
     words(out, i, b"\n")
 }
 
+#[tactic(auto, using(crate::proofs::Laws::nothing, crate::proofs::Laws::within), unfolding(crate::specs::Report::lines_from))]
 pub fn round_lines(out: &mut [u8], at: usize, records: &[Iteration]) -> usize
     requires { at ≤ length out.old }
     ensures { Wrote (lines_from (λ k e. round_line e) 1 records.now) at out.old out.new result }
@@ -143,6 +152,7 @@ fn element_line(out: &mut [u8], at: usize, e: usize, density: f64) -> usize
     words(out, b, b"\n")
 }
 
+#[tactic(auto, using(crate::proofs::Laws::nothing, crate::proofs::Laws::within), unfolding(crate::specs::Report::lines_from))]
 pub fn element_lines(out: &mut [u8], at: usize, density: &[f64]) -> usize
     requires { at ≤ length out.old }
     ensures { Wrote (lines_from element_line 1 density.now) at out.old out.new result }

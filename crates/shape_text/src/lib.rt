@@ -1,18 +1,21 @@
 // What program `shape` prints of a job: the job is run, and its outcome written into a lent list.
 #![tactic(auto)]
 
-ghost use Rattle.std.specs.Prelude.{◌≡◌, false, length, take};
-ghost use Rattle.run_plain.specs.Calls.{lists_of};
-ghost use Rattle.run_answer.specs.Answers.{lengths_of};
-ghost use Rattle.run_open_checks.specs.Opens.{lengths_of as open_lengths};
+ghost use Rattle.std.specs.Prelude.{◌≡◌, length, take};
+ghost use Rattle.filter.specs.Build.{work_lengths};
+ghost use Rattle.filter.specs.Held.{working as open_working, SameWork as SameOpenWork};
+ghost use Rattle.run_plain.specs.Calls.{replied};
+ghost use Rattle.run_plain.specs.Held.{asked, working, lengths_of, SameWork};
+ghost use Rattle.shape_job.specs.Held.{lists_in, SameLists};
 ghost use Rattle.shape_job.specs.Job.{job_of};
 ghost use Rattle.shape_report.specs.Report.{text_of};
 ghost use Rattle.shape_report.specs.Steps.{Wrote};
 ghost use Rattle.shape_text.specs.Printed.{outcome_by, outcome_of};
 
-use run_plain::Reply;
-use shape_calls::Turn;
-use topo::{Goal, Iteration};
+use refusal::Refusal;
+use run_plain::{Fields, Job, Reply, Returned, Work};
+use shape_job::Lists;
+use topo::Iteration;
 
 // The first n places of a list, or all where it has fewer.
 fn front<T: Copy>(list: &[T], n: usize) -> &[T]
@@ -21,21 +24,18 @@ fn front<T: Copy>(list: &[T], n: usize) -> &[T]
     if n < list.len() { &list[..n] } else { list }
 }
 
-fn outcome(t: Turn, last: &[f64], out: &mut [u8]) -> usize
-    ensures { Wrote (text_of (outcome_by t.returned.reply t.returned.state t.history last.now)) 0 out.old out.new result }
+fn outcome(returned: Returned, fields: &Fields, history: &[Iteration], out: &mut [u8]) -> usize
+    ensures { Wrote (text_of (outcome_by (replied returned.reply) returned.state history.now fields.now.last.now)) 0 out.old out.new result }
 {
-    let returned = t.returned;
     let state = returned.state;
-    let reply = returned.reply;
-    let history = t.history;
-    match reply {
-        Reply::Refused(n) => shape_report::refused(out, n),
-        Reply::Solid => shape_report::refused(out, 20),
-        Reply::Round(_) => shape_report::refused(out, 20),
+    let last = &*fields.last;
+    match returned.reply {
+        Reply::Refused(why) => shape_report::refused(out, why),
+        Reply::Solid | Reply::Round(_) => shape_report::refused(out, Refusal::OutOfTurn),
         Reply::Stop(why) => shape_report::ran(
             out,
             state.compliances.solid,
-            front(&history, state.progress.rounds),
+            front(history, state.progress.rounds),
             why,
             front(last, state.setting.elements),
         ),
@@ -44,46 +44,22 @@ fn outcome(t: Turn, last: &[f64], out: &mut [u8]) -> usize
 
 // A job, run from its lists as `shape_job::run` has them.
 pub fn text(
-    goal: Goal,
-    volumes: &[f64],
-    centroids: &[[f64; 3]],
+    job: Job,
     weights: &[f64],
-    passive: &[bool],
-    mirrors: &[[f64; 6]],
-    starts: &mut [u32],
-    near: &mut [u32],
-    coef: &mut [f64],
-    design: &mut [f64],
-    density: &mut [f64],
-    last: &mut [f64],
-    history: [Iteration; 64],
+    lists: &mut Lists,
     energies: &mut [f64],
-    cell: &mut [[u64; 3]],
-    order: &mut [u32],
-    first: &mut [u32],
-    sorted: &mut [[f64; 3]],
-    stamp: &mut [u32],
-    weight: &mut [f64],
-    found: &mut [u32],
-    bits: &mut [u64],
-    free: &mut [f64],
-    slope: &mut [f64],
-    spare: &mut [f64],
-    dc: &mut [f64],
-    dv: &mut [f64],
+    opening: &mut filter::work::Work,
+    answers: &mut Work,
     out: &mut [u8],
 ) -> usize
-    ensures { Wrote (text_of (outcome_of (job_of weights.now (length energies.old)
-        (open_lengths (record { cell = cell.old; order = order.old; first = first.old; sorted = sorted.old; stamp = stamp.old; weight = weight.old; found = found.old; bits = bits.old }))
-        (lengths_of (record { free = free.old; slope = slope.old; spare = spare.old; dc = dc.old; dv = dv.old }))
-        (record { centroids = centroids.now; mirrors = mirrors.now; goal = goal; flag = false })
-        (lists_of (record { volumes = volumes.now; passive = passive.now; starts = starts.old; near = near.old; coef = coef.old; design = design.old; density = density.old; last = last.old }) history))))
+    ensures wrote { Wrote (text_of (outcome_of (job_of weights.now (length energies.old) (work_lengths (open_working opening.old)) (lengths_of (working answers.old)) (asked job.entry) (lists_in job.entry lists.old))))
         0 out.old out.new result }
+    ensures same_lists { SameLists lists.old lists.new }
+    ensures same_opening { SameOpenWork opening.old opening.new }
+    ensures same_answers { SameWork answers.old answers.new }
 {
-    let t = shape_job::run(
-        goal, volumes, centroids, weights, passive, mirrors, starts, near, coef, design, density,
-        last, history, energies, cell, order, first, sorted, stamp, weight, found, bits, free,
-        slope, spare, dc, dv,
-    );
-    outcome(t, &last[..], out)
+    let returned = shape_job::run(job, weights, lists, energies, opening, answers);
+    let fields = &mut lists.fields;
+    let history = &mut *lists.history;
+    outcome(returned, fields, history, out)
 }

@@ -41,9 +41,9 @@ most (fin false m e) a b =
     round-le (round binary64 false (m * up e * 1000) (down e * 1)) 1000 (lit≤ tt)
     (round_mono binary64 (m * up e * 1000) (down e * 1) 1000 1 (omega (arith, down_pos e)) (omega arith) (omega (arith, ltb-false (1 * down e) (m * up e * 1) b)))
 
-pub level-most : (x : Float) → level_of x ≤ 1000
+pub level_most : (x : Float) → level_of x ≤ 1000
 unfolding level_of clamp_of choose lt of_bits
-level-most x = go (lt x zero64) (lt one64 x) refl refl
+level_most x = go (lt x zero64) (lt one64 x) refl refl
   where
     go : (s t : Bool) → lt x zero64 ≡ s → lt one64 x ≡ t → round_half_away (mul binary64 (choose s zero64 (choose t one64 x)) (whole64 1000)) ≤ 1000
     go true t a b = most zero64 refl refl

@@ -1,8 +1,7 @@
 -- The three choices of sharpening. Definitions only.
-use Rattle.std.specs.Prelude.{◌≡◌, ◌<◌, ℕ, Bool, true, false, eqb, Result, MatchResult}
+use Rattle.std.specs.Prelude.{ℕ, Bool, true, false, eqb}
 use Rattle.lists.specs.Lists.{choose}
 use Rattle.topo.specs.declared.Sharpening.{Sharpening}
-use Rattle.topo.specs.declared.UnknownSharpening.{UnknownSharpening}
 use Rattle.topo.specs.declared.Sharpening.TheVariants.{Off, Early, Full}
 
 -- whether the design is sharpened at all
@@ -26,7 +25,3 @@ abbrev pub sharpening_number : Sharpening → ℕ
 sharpening_number Off = 0
 sharpening_number Early = 1
 sharpening_number Full = 2
-
--- the choice that has the number, or the number where none has it
-abbrev pub IsSharpening : ℕ → Result Sharpening UnknownSharpening → Type 0
-IsSharpening n r = MatchResult r (λ choice. sharpening_number choice ≡ n) (λ e. (e.0 ≡ n) × (2 < n))

@@ -3,7 +3,7 @@
 
 ghost use Rattle.std.specs.Prelude.{◌≡◌, true};
 ghost use Rattle.topo.specs.Levels.{modulus_of, level_of};
-ghost use Rattle.topo.specs.Stages.{sharpens as sharpens_of, early as early_of, sharpening_of, sharpening_number, IsSharpening};
+ghost use Rattle.topo.specs.Stages.{sharpens as sharpens_of, early as early_of, sharpening_of, sharpening_number};
 ghost use Rattle.topo.specs.Stops.{stop_number};
 
 // How many stiffness levels the solver is given: level 0 is the floor, 1000 the material itself.
@@ -131,26 +131,8 @@ impl From<Sharpening> for u32 {
     }
 }
 
-// A number that no choice of sharpening has.
-#[derive(Clone, Copy, PartialEq, Eq, Debug)]
-pub struct UnknownSharpening(pub u32);
-
-impl TryFrom<u32> for Sharpening {
-    type Error = UnknownSharpening;
-
-    ghost try_from_gives = { IsSharpening };
-
-    fn try_from(number: u32) -> Result<Sharpening, UnknownSharpening> {
-        match number {
-            0 => Ok(Sharpening::Off),
-            1 => Ok(Sharpening::Early),
-            2 => Ok(Sharpening::Full),
-            _ => Err(UnknownSharpening(number)),
-        }
-    }
-}
-
-// The choice that a strip, or a caller that knows no enums, gives by a number. Whoever reads one refuses a number above 2.
+// The choice that a strip, or a caller that knows no enums, gives by a number.
+// Stays a function and no TryFrom: whoever reads one refuses a number above 2 with other tests at once, so that no error of its own would be looked at.
 #[tactic(auto, unfolding(crate::specs::Stages::sharpening_of, lists::specs::Lists::choose))]
 pub fn sharpening_of(number: u32) -> Sharpening
     ensures { result ≡ sharpening_of number }
@@ -178,26 +160,6 @@ impl From<Stop> for u32 {
     }
 }
 
-// The functions below go when nobody calls them.
-
-pub fn sharpens(choice: Sharpening) -> bool
-    ensures { result ≡ sharpens_of choice }
-{
-    choice.sharpens()
-}
-
-pub fn early(choice: Sharpening) -> bool
-    ensures { result ≡ early_of choice }
-{
-    choice.early()
-}
-
-pub fn sharpening_number(choice: Sharpening) -> u32
-    ensures { result ≡ sharpening_number choice }
-{
-    u32::from(choice)
-}
-
 // The Young's modulus of a stiffness level for a material of modulus e0: the floor plus the level's density cubed of the rest.
 #[tactic(auto, unfolding(crate::specs::Levels::modulus_of, crate::specs::Levels::density_of))]
 pub fn modulus(level: u16, e0: f64) -> f64
@@ -208,6 +170,7 @@ pub fn modulus(level: u16, e0: f64) -> f64
 }
 
 // The level that a density is solved at: the nearest thousandth.
+#[tactic(auto, using(crate::proofs::Levels::level_most), unfolding(crate::specs::Levels::level_of))]
 pub fn level_of(x: f64) -> u16
     ensures { result ≡ level_of x }
 {

@@ -2,6 +2,7 @@
 ghost use Rattle.std.specs.Prelude.{◌≡◌};
 ghost use Rattle.topo_moduli.specs.Moduli.{numbers_of};
 
+// Stays a number beside the level, since the C interface lays it out so.
 #[repr(C)]
 #[derive(Clone, Copy)]
 pub struct LevelNumbers {
@@ -25,11 +26,4 @@ impl From<Option<u16>> for LevelNumbers {
             },
         }
     }
-}
-
-// It goes when nobody calls it.
-pub fn numbers(found: Option<u16>) -> LevelNumbers
-    ensures { result ≡ numbers_of found }
-{
-    LevelNumbers::from(found)
 }

@@ -1,3 +1,2 @@
--- `Ends` has what an update leaves, and `Same` that the filter serves sharpening alone.
-pub mod Ends
+-- `Same` has that the filter serves sharpening alone.
 pub mod Same

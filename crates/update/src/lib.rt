@@ -2,15 +2,20 @@
 // volume that it costs is the same for all, by at most m, between X_MIN and 1 (1 where solid); that common rate found by halving.
 #![tactic(auto)]
 
-ghost use Rattle.std.specs.Prelude.{◌≡◌, ◌<◌, length};
-ghost use Rattle.update_design.specs.Design.{gains_of};
-ghost use Rattle.update_rates.specs.Rates.{Given, given, first_rate, updated};
-ghost use Rattle.update_rates.specs.Steps.{standing};
-ghost use Rattle.update.specs.Update.{Done};
+mod task;
 
+ghost use Rattle.std.specs.Prelude.{◌≡◌, length, IfSome};
+ghost use Rattle.update_rates.specs.Rates.{first_rate, updated};
+ghost use Rattle.update_rates.specs.Steps.{given_of, standing};
+ghost use Rattle.update.specs.Update.{Done};
+ghost use Rattle.update.specs.Task.{task_of};
+
+use filter_table::Table;
 use oc_kept::Rule;
+pub use task::Task;
 use topo::Ending;
-use update_rates::Bracket;
+use update_design::Problem;
+use update_rates::Stand;
 
 #[derive(Clone, Copy)]
 pub struct Updated {
@@ -19,106 +24,81 @@ pub struct Updated {
     pub passes: usize,
 }
 
-// By few volumes, as the rule asks. No passes: the fast way does not serve.
+// By few volumes, as the rule asks. None: the fast way does not serve.
+// Stays, here and below, that the lists are as long as the design: two are lent to be written, and a struct of them would need clauses as long that they stay
+// the same; a slope for each element is wanted by the update without sharpening alone.
 fn fast(
-    x: &[f64],
-    gain: &[f64],
-    dv: &[f64],
-    passive: &[bool],
-    m: f64,
-    target: f64,
-    tolerance: f64,
+    problem: Problem,
     rule: Rule,
-    starts: &[u32],
-    near: &[u32],
-    coef: &[f64],
+    table: Table,
     volumes: &[f64],
     first: f64,
     design: &mut [f64],
     work: &mut [f64],
-) -> Bracket
-    ghost g: { Given }
-    requires volumes_value { given x.now gain.now dv.now passive.now m target tolerance rule starts.now near.now coef.now volumes.now ≡ g }
-    requires gain_len { (length gain.now ≡ length x.now) × (length dv.now ≡ length x.now) × (length passive.now ≡ length x.now) × (length design.old ≡ length x.now) × (length work.old ≡ length x.now) }
-    requires first_value { first ≡ first_rate g }
-    ensures { 0 < result.passes → standing result design.new ≡ updated g }
+) -> Option<Stand>
+    requires lengths { (length problem.dv.now ≡ length problem.x.now) × (length design.old ≡ length problem.x.now) × (length work.old ≡ length problem.x.now) }
+    requires first_value { first ≡ first_rate (given_of problem rule table volumes.now) }
+    ensures { IfSome result (λ s. standing s design.new ≡ updated (given_of problem.entry rule table.entry volumes.now)) }
 {
     match rule {
-        Rule::Straight(solid) => update_straight::straight(
-            x, gain, dv, passive, m, target, tolerance, solid, first, design, work,
-        ),
-        Rule::Sharpened(beta) => update_sharpened::sharpened(
-            x, gain, dv, passive, m, target, tolerance, beta, starts, near, coef, volumes, first,
-            design, work,
-        ),
+        Rule::Straight(solid) => update_straight::straight(problem, solid, first, design, work),
+        Rule::Sharpened(beta) => {
+            update_sharpened::sharpened(problem, beta, table, volumes, first, design, work)
+        }
     }
 }
 
-// Internal: the lists have one length. `design` is left the updated design; `gain` and `work` are for the call's own use.
-pub fn update(
-    x: &[f64],
-    dc: &[f64],
-    dv: &[f64],
-    passive: &[bool],
-    m: f64,
-    target: f64,
-    tolerance: f64,
+// The fast way, and else as it is defined.
+fn search(
+    problem: Problem,
     rule: Rule,
-    starts: &[u32],
-    near: &[u32],
-    coef: &[f64],
+    table: Table,
     volumes: &[f64],
+    first: f64,
     design: &mut [f64],
-    gain: &mut [f64],
     work: &mut [f64],
-) -> Updated
-    requires { (length dc.now ≡ length x.now) × (length dv.now ≡ length x.now) × (length passive.now ≡ length x.now) × (length design.old ≡ length x.now) × (length gain.old ≡ length x.now) × (length work.old ≡ length x.now) }
-    ensures { Done (given x.now (gains_of dc.now dv.now) dv.now passive.now m target tolerance rule starts.now near.now coef.now volumes.now) result design.new }
+) -> Stand
+    requires lengths { (length problem.dv.now ≡ length problem.x.now) × (length design.old ≡ length problem.x.now) × (length work.old ≡ length problem.x.now) }
+    requires first_value { first ≡ first_rate (given_of problem rule table volumes.now) }
+    ensures { standing result design.new ≡ updated (given_of problem.entry rule table.entry volumes.now) }
 {
-    update_design::gains(dc, dv, gain);
-    let first = update_value::first_rate(update_design::most(&gain[..], passive));
-    let at = fast(
-        x,
-        &gain[..],
-        dv,
-        passive,
-        m,
-        target,
-        tolerance,
-        rule,
-        starts,
-        near,
-        coef,
-        volumes,
-        first,
-        design,
-        work,
-    );
-    let passes = at.passes;
-    if passes > 0usize {
-        let ending = update_rates::ended(target, tolerance, at);
-        return Updated { ending, passes };
+    if let Some(stand) = fast(problem, rule, table, volumes, first, design, work) {
+        return stand;
     }
-    let at = update_defined::every(
+    update_defined::every(problem, rule, table, volumes, first, design, work)
+}
+
+// Internal: the lists have one length. `design` is left the updated design; `gain` and `work` are for the call's own use.
+pub fn update(task: Task, design: &mut [f64], gain: &mut [f64], work: &mut [f64]) -> Updated
+    requires { (length design.old ≡ length task.x.now) × (length gain.old ≡ length task.x.now) × (length work.old ≡ length task.x.now) }
+    ensures { Done (task_of task.entry) result design.new }
+{
+    let Task {
         x,
-        &gain[..],
+        dc,
         dv,
         passive,
         m,
         target,
         tolerance,
         rule,
-        starts,
-        near,
-        coef,
+        table,
         volumes,
-        first,
-        design,
-        work,
-    );
-    let ending = update_rates::ended(target, tolerance, at);
+    } = task;
+    update_design::gains(dc, dv, gain);
+    let first = update_value::first_rate(update_design::most(gain, passive));
+    let problem = Problem {
+        x,
+        gain,
+        dv,
+        passive,
+        m,
+        target,
+        tolerance,
+    };
+    let stand = search(problem, rule, table, volumes, first, design, work);
     Updated {
-        ending,
-        passes: at.passes,
+        ending: stand.ending(target, tolerance),
+        passes: stand.passes,
     }
 }

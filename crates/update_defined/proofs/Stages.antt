@@ -4,11 +4,11 @@ use mathlib.Core.List.{List}
 use Prim.Native.Nat.{◌-◌}
 use lib.Ieee.{Float}
 use Rattle.lists.specs.Lists.{zero64}
-use Rattle.update_rates.specs.declared.Bracket.{Bracket}
+use Rattle.update_rates.specs.declared.Stand.{Stand}
 use Rattle.update_rates.specs.Rates.{Given, Search, trial, reckoned, first_rate, first, raises, raised, halves, halved, while_to, raised_all, updated}
 use Rattle.update_rates.specs.Steps.{standing}
 
-pub stages : (g : Given) (rate kept : Float) (y d d' : List Float) (up at : Bracket)
+pub stages : (g : Given) (rate kept : Float) (y d d' : List Float) (up at : Stand)
     → rate ≡ first_rate g → y ≡ trial g rate → kept ≡ reckoned g y
     → standing up d ≡ while_to (raises g) (raised g) 199 (record { low = zero64; high = rate; design = y; kept = kept; passes = 1 })
     → standing at d' ≡ while_to (halves g) (halved g) (200 - up.passes) (standing up d)

@@ -1,2 +1,2 @@
--- `Copied` has the law of a list that is copied.
+-- `Copied` has that a list read place by place is itself, and what `==` tests of two.
 pub mod Copied

@@ -1,2 +1,3 @@
--- `Design` has the design at a rate.
+-- `Design` has the design at a rate, and `Trial` that of what an update is given.
 pub mod Design
+pub mod Trial

@@ -1,25 +1,22 @@
 -- A turn and an end of the two loops of an update, by what the code's calls gave. Assumes nothing.
-use mathlib.Core.Path.{◌≡◌, refl, sym, ap, ◌∙◌, subst}
+use mathlib.Core.Path.{◌≡◌, refl, sym, ap, ◌∙◌}
 use mathlib.Core.Bool.{Bool, true, false, not, ◌&&◌, ◌||◌}
 use mathlib.Core.List.{List}
 use Prim.Native.Nat.{ℕ, zero, suc, ◌+◌, ◌-◌, ◌≤◌, ◌<◌}
 use native.Mathlib.Omega.{arith}
 use lib.Dec.{ltb}
 use lib.Ieee.{Float, binary64, add, sub, mul, lt, le}
-use borrow.Author.Tests.{ltb-true, ltb-false}
+use borrow.Author.Tests.{ltb-true, ltb-false, lt-ltb, le-ltb}
 use Rattle.lists.specs.Lists.{choose}
 use Rattle.lists.proofs.Bools.{and-true, and-left-false, and-right-false}
 use Rattle.lists.proofs.Laws.{both}
 use Rattle.ieee.specs.Basic.{abs_of}
-use Rattle.filter_table.specs.Table.{Wf}
 use Rattle.update_rates.specs.Rates.{half}
 use Rattle.oc_record.specs.Record.{two64}
 use Rattle.update_design.specs.Design.{same_design}
 use Rattle.update_rates.specs.Rates.{Given, Search, trial, reckoned, raises, raised, middle, halves, halved, while_to}
-
--- a well formed table is so for equal counts
-pub wf-at : (starts near : List ℕ) (coef : List Float) (n m n' m' : ℕ) → n ≡ n' → m ≡ m' → Wf starts near coef n m → Wf starts near coef n' m'
-wf-at starts near coef n m n' m' e f w = subst (λ (k : ℕ). Wf starts near coef n' k) f (subst (λ (k : ℕ). Wf starts near coef k m) e w)
+use Rattle.update_rates.specs.Steps.{mean_of, is_closed}
+use Rattle.update_rates.specs.declared.Bracket.{Bracket}
 
 -- ---- a loop in general
 module _ {A : Type 0} (p : A → Bool) (f : A → A) where
@@ -58,10 +55,6 @@ module _ {A : Type 0} (p : A → Bool) (f : A → A) where
       none : (most k : ℕ) → k ≤ most → most ≤ k → most - k ≡ 0
       none most k h l = omega arith
   while-over most k s false e h g = while-off (most - k) s (g refl)
-
--- a test that holds leaves a pass
-pub pass-left : (t : Bool) (k : ℕ) → (t && ltb k 200) ≡ true → (k + 1 ≤ 200) × (200 - (k + 1) < 200 - k)
-pass-left t k e = let h : k < 200 = ltb-true k 200 (both t (ltb k 200) e).1 in (omega arith, omega arith)
 
 -- ---- the two loops
 module _ (g : Given) (low high kept : Float) (design : List Float) (passes : ℕ) where
@@ -122,3 +115,53 @@ module _ (g : Given) (low high kept : Float) (design : List Float) (passes : ℕ
   pub halve-over : (off : Float) → off ≡ abs_of (sub binary64 kept g.target) → (lt g.tolerance off && ltb passes 200) ≡ false → passes ≤ 200 → while_to (halves g) (halved g) (200 - passes) stand ≡ stand
   unfolding halves middle
   halve-over off o t h = while-over (halves g) (halved g) 200 passes stand (lt g.tolerance off) t h (λ e. and-left-false far (not (le mean low || le high mean)) (ap (lt g.tolerance) (sym o) ∙ e))
+
+-- ---- the same by a bracket
+abbrev at-bracket : Bracket → List Float → Float → ℕ → Search
+at-bracket b design kept passes = record { low = b.low; high = b.high; design = design; kept = kept; passes = passes }
+
+abbrev pub raise_rest : Given → Bracket → List Float → Float → ℕ → Search
+raise_rest g b design kept passes = while_to (raises g) (raised g) (200 - passes) (at-bracket b design kept passes)
+
+abbrev pub halve_rest : Given → Bracket → List Float → Float → ℕ → Search
+halve_rest g b design kept passes = while_to (halves g) (halved g) (200 - passes) (at-bracket b design kept passes)
+
+module _ (g : Given) (b : Bracket) (design : List Float) (kept : Float) (passes : ℕ) where
+  abbrev twice : Float
+  twice = mul binary64 two64 b.high
+
+  pub raise_rest-more : (y : List Float) (kept' : Float) → lt g.target kept ≡ true → passes < 200 → y ≡ trial g twice → same_design y design ≡ false → kept' ≡ reckoned g y
+      → raise_rest g (record { low = b.high; high = twice }) y kept' (passes + 1) ≡ raise_rest g b design kept passes
+  raise_rest-more y kept' t h f d k =
+      raise-more g b.low b.high kept design passes kept' y y (and-true (lt g.target kept) (ltb passes 200) t (lt-ltb passes 200 h)) f d refl k
+
+  pub raise_rest-same : (y : List Float) → y ≡ trial g twice → same_design y design ≡ true → raise_rest g b design kept passes ≡ at-bracket b design kept passes
+  raise_rest-same = raise-same g b.low b.high kept design passes
+
+  pub raise_rest-met : lt g.target kept ≡ false → passes ≤ 200 → raise_rest g b design kept passes ≡ at-bracket b design kept passes
+  raise_rest-met t = raise-over g b.low b.high kept design passes (and-left-false (lt g.target kept) (ltb passes 200) t)
+
+  pub raise_rest-over : passes ≡ 200 → at-bracket b design kept 200 ≡ raise_rest g b design kept passes
+  raise_rest-over e =
+      sym (raise-over g b.low b.high kept design 200 (and-right-false (lt g.target kept) (ltb 200 200) (le-ltb 200 200 (omega arith))) (omega arith))
+      ∙ ap (raise_rest g b design kept) (sym e)
+
+  abbrev off-now : Bool
+  off-now = lt g.tolerance (abs_of (sub binary64 kept g.target))
+
+  pub halve_rest-more : (b' : Bracket) (mid kept' : Float) (y : List Float) (m : Bool) → off-now ≡ true → passes < 200 → (mid ≡ mean_of b) × (is_closed b ≡ false) → y ≡ trial g mid → kept' ≡ reckoned g y
+      → m ≡ lt g.target kept' → (b'.low ≡ choose m mid b.low) × (b'.high ≡ choose m b.high mid) → halve_rest g b' y kept' (passes + 1) ≡ halve_rest g b design kept passes
+  halve_rest-more b' mid kept' y m o h c f k e i =
+      halve-more g b.low b.high kept design passes (abs_of (sub binary64 kept g.target)) kept' b'.low b'.high y refl (and-true off-now (ltb passes 200) o (lt-ltb passes 200 h)) c.1
+      (f ∙ ap (trial g) c.0) k (i.0 ∙ (λ j. choose (e j) (c.0 j) b.low)) (i.1 ∙ (λ j. choose (e j) b.high (c.0 j)))
+
+  pub halve_rest-none : is_closed b ≡ true → halve_rest g b design kept passes ≡ at-bracket b design kept passes
+  halve_rest-none = halve-none g b.low b.high kept design passes
+
+  pub halve_rest-met : off-now ≡ false → passes ≤ 200 → halve_rest g b design kept passes ≡ at-bracket b design kept passes
+  halve_rest-met o = halve-over g b.low b.high kept design passes (abs_of (sub binary64 kept g.target)) refl (and-left-false off-now (ltb passes 200) o)
+
+  pub halve_rest-over : passes ≡ 200 → at-bracket b design kept 200 ≡ halve_rest g b design kept passes
+  halve_rest-over e =
+      sym (halve-over g b.low b.high kept design 200 (abs_of (sub binary64 kept g.target)) refl (and-right-false off-now (ltb 200 200) (le-ltb 200 200 (omega arith))) (omega arith))
+      ∙ ap (halve_rest g b design kept) (sym e)

@@ -17,7 +17,7 @@ use Rattle.oc_kept.specs.declared.Rule.TheVariants.{Straight}
 use Rattle.oc_goal.specs.Goal.{xMin}
 use Rattle.oc_record.specs.Record.{dot}
 use Rattle.oc_kept.specs.Kept.{kept_of}
-use Rattle.update_straight.specs.declared.Known.{Known}
+use Rattle.update_rates.specs.declared.Bracket.{Bracket}
 use Rattle.update_design.specs.Design.{design_at}
 use Rattle.update_rates.specs.Rates.{Given, given, trial, reckoned}
 use Rattle.update_rates.specs.Steps.{lowest, more, off}
@@ -117,9 +117,9 @@ module _ (x gain dv : List Float) (passive : List Bool) (m target tolerance soli
         (sym (ap (lt target) is) ∙ not-true (lt target kb) r.1) (sym (ap (λ (v : Float). lt tolerance (abs_of (sub binary64 v target))) is) ∙ sym (ap (lt tolerance) o) ∙ p.1)
 
     -- what is known of the two rates
-    pub known_is : (k : Known) (a b ka kb oa ob : Float) → ka ≡ reckon a → kb ≡ reckon b → oa ≡ abs_of (sub binary64 ka target) → ob ≡ abs_of (sub binary64 kb target)
-        → k.below ≡ choose (lt zero64 a && lt a infinity && lt target ka && lt tolerance oa) a zero64
-        → k.above ≡ choose (lt zero64 b && lt b infinity && not (lt target kb) && lt tolerance ob) b infinity
+    pub known_is : (k : Bracket) (a b ka kb oa ob : Float) → ka ≡ reckon a → kb ≡ reckon b → oa ≡ abs_of (sub binary64 ka target) → ob ≡ abs_of (sub binary64 kb target)
+        → k.low ≡ choose (lt zero64 a && lt a infinity && lt target ka && lt tolerance oa) a zero64
+        → k.high ≡ choose (lt zero64 b && lt b infinity && not (lt target kb) && lt tolerance ob) b infinity
         → Knows straight k
     known_is k a b ka kb oa ob ea eb fa fb u v = record { low = low; high = high }
       where
@@ -127,18 +127,18 @@ module _ (x gain dv : List Float) (passive : List Bool) (m target tolerance soli
         low_of true e rate h q = below a ka oa ea fa e rate h (unfold choose in q)
         low_of false e rate h q = never (sym h ∙ le_not_lt rate zero64 (holds (le rate zero64) (unfold choose in q)))
 
-        low : (rate : Float) → lt zero64 rate ≡ true → le rate k.below ≡ true → (more straight rate ≡ true) × (off straight rate ≡ true)
+        low : (rate : Float) → lt zero64 rate ≡ true → le rate k.low ≡ true → (more straight rate ≡ true) × (off straight rate ≡ true)
         low rate h q = low_of _ refl rate h (sym (ap (le rate) u) ∙ q)
 
         high_of_lem : (t : Bool) → (lt zero64 b && lt b infinity && not (lt target kb) && lt tolerance ob) ≡ t → (rate : Float) → le (choose t b infinity) rate ≡ true → lt rate infinity ≡ true → (more straight rate ≡ false) × (off straight rate ≡ true)
         high_of_lem true e rate q h = above b kb ob eb fb e rate (unfold choose in q) h
         high_of_lem false e rate q h = never (sym h ∙ le_not_lt infinity rate (holds (le infinity rate) (unfold choose in q)))
 
-        high : (rate : Float) → le k.above rate ≡ true → lt rate infinity ≡ true → (more straight rate ≡ false) × (off straight rate ≡ true)
+        high : (rate : Float) → le k.high rate ≡ true → lt rate infinity ≡ true → (more straight rate ≡ false) × (off straight rate ≡ true)
         high rate q h = high_of_lem _ refl rate (sym (ap (λ (w : Float). le w rate) v) ∙ q) h
 
   -- nothing is known
-  pub nothing_known : (k : Known) → k.below ≡ zero64 → k.above ≡ infinity → Knows straight k
+  pub nothing_known : (k : Bracket) → k.low ≡ zero64 → k.high ≡ infinity → Knows straight k
   nothing_known k u v = record {
     low = λ rate h q. never (sym h ∙ le_not_lt rate zero64 (holds (le rate zero64) (sym (ap (le rate) u) ∙ q)));
     high = λ rate q h. never (sym h ∙ le_not_lt infinity rate (holds (le infinity rate) (sym (ap (λ (w : Float). le w rate) v) ∙ q)));

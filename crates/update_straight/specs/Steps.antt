@@ -7,7 +7,7 @@ use Rattle.ieee.specs.Basic.{one64}
 use Rattle.oc_goal.specs.Goal.{xMin}
 use Rattle.update_rates.specs.Rates.{Given}
 use Rattle.update_rates.specs.Steps.{lowest, more, off}
-use Rattle.update_straight.specs.declared.Known.{Known}
+use Rattle.update_rates.specs.declared.Bracket.{Bracket}
 
 -- 1.0 / 0.0
 abbrev pub infinity : Float
@@ -23,6 +23,6 @@ orderly x gain dv move solid target =
     not (any_to (λ k. not (usual (get_or x k nan) (get_or gain k nan) (get_or dv k nan))) (length x)) && (le xMin move && le move one64) && (lt zero64 (div binary64 one64 solid) && lt zero64 (div binary64 one64 target))
 
 -- all rates up to `below` keep too much, and all from `above` on too little
-pub record Knows (g : Given) (k : Known) : Type 0 where
-  pub low : (rate : Float) → lt zero64 rate ≡ true → le rate k.below ≡ true → (more g rate ≡ true) × (off g rate ≡ true)
-  pub high : (rate : Float) → le k.above rate ≡ true → lt rate infinity ≡ true → (more g rate ≡ false) × (off g rate ≡ true)
+pub record Knows (g : Given) (k : Bracket) : Type 0 where
+  pub low : (rate : Float) → lt zero64 rate ≡ true → le rate k.low ≡ true → (more g rate ≡ true) × (off g rate ≡ true)
+  pub high : (rate : Float) → le k.high rate ≡ true → lt rate infinity ≡ true → (more g rate ≡ false) × (off g rate ≡ true)

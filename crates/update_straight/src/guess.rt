@@ -1,21 +1,22 @@
 // The guess: any answer will do.
 ghost use Rattle.std.specs.Prelude.{◌≡◌, length};
 
-use crate::Known;
-use update_rates::PASSES;
+use crate::Sloped;
+use update_design::Problem;
+use update_rates::{Bracket, PASSES};
 
 // About the volume that a design adds, and how fast that grows with w, the root of 1 / rate.
 #[derive(Clone, Copy)]
-pub struct Sums {
-    pub volume: f64,
-    pub slope: f64,
+struct Sums {
+    volume: f64,
+    slope: f64,
 }
 
 // Where the volume is likely to be met: the root of 1 / rate, and how fast the volume grows there.
 #[derive(Clone, Copy)]
-pub struct Where {
-    pub w: f64,
-    pub slope: f64,
+struct Where {
+    w: f64,
+    slope: f64,
 }
 
 // About an element's value: `reach` is that at the rate 1, and w the root of 1 / rate.
@@ -43,74 +44,84 @@ fn moves(reach: f64, w: f64, v: f64) -> f64 {
     if v == reach * w { reach } else { 0.0 }
 }
 
-// About the volume that a rate adds, summed in another order.
-fn roughly(x: &[f64], reach: &[f64], dv: &[f64], m: f64, w: f64) -> Sums
-    requires { (length reach.now ≡ length x.now) × (length dv.now ≡ length x.now) }
-{
-    let mut p = 0.0;
-    let mut q = 0.0;
-    let mut r = 0.0;
-    let mut s = 0.0;
-    let mut i = 0usize;
-    while i + 1usize < x.len() {
-        let a = rough(x[i], reach[i], m, w);
-        let b = rough(x[i + 1usize], reach[i + 1usize], m, w);
-        p = p + dv[i] * a;
-        q = q + dv[i + 1usize] * b;
-        r = r + dv[i] * moves(reach[i], w, a);
-        s = s + dv[i + 1usize] * moves(reach[i + 1usize], w, b);
-        i += 2usize;
+impl Sums {
+    // With an element's share.
+    fn plus(self, x: f64, reach: f64, dv: f64, m: f64, w: f64) -> Sums {
+        let v = rough(x, reach, m, w);
+        Sums {
+            volume: self.volume + dv * v,
+            slope: self.slope + dv * moves(reach, w, v),
+        }
     }
-    while i < x.len() {
-        let a = rough(x[i], reach[i], m, w);
-        p = p + dv[i] * a;
-        r = r + dv[i] * moves(reach[i], w, a);
-        i += 1usize;
+}
+
+// Stays, here and below, that the reaches are as many as the elements: `reaches` writes them, so they are no part of the problem.
+// About the volume that a rate adds, summed in another order: every second element apart, so that two sums are under way at a time.
+fn roughly(at: Sloped, reach: &[f64], w: f64) -> Sums
+    requires { length reach.now ≡ length at.problem.x.now }
+{
+    let Problem { x, dv, m, .. } = at.problem;
+    let none = Sums {
+        volume: 0.0,
+        slope: 0.0,
+    };
+    let mut even = none;
+    let mut odd = none;
+    let pairs = x.len() / 2;
+    for k in 0..pairs {
+        let i = 2 * k;
+        even = even.plus(x[i], reach[i], dv[i], m, w);
+        odd = odd.plus(x[i + 1], reach[i + 1], dv[i + 1], m, w);
+    }
+    for i in 2 * pairs..x.len() {
+        even = even.plus(x[i], reach[i], dv[i], m, w);
     }
     Sums {
-        volume: p + q,
-        slope: r + s,
+        volume: even.volume + odd.volume,
+        slope: even.slope + odd.slope,
     }
 }
 
 // The value of each element at the rate 1, and far too much where it is held solid.
-pub fn reaches(x: &[f64], gain: &[f64], passive: &[bool], reach: &mut [f64])
-    requires { (length gain.now ≡ length x.now) × (length passive.now ≡ length x.now) × (length reach.old ≡ length x.now) }
+pub fn reaches(problem: Problem, reach: &mut [f64])
+    requires { length reach.old ≡ length problem.x.now }
 {
-    let mut i = 0usize;
-    while i < x.len() {
-        reach[i] = lists::either(passive[i], 1e300, x[i] * ieee_root::sqrt(gain[i]));
-        i += 1usize;
+    let Problem {
+        x,
+        gain,
+        passive,
+        ..
+    } = problem;
+    for (i, r) in reach.iter_mut().enumerate() {
+        *r = lists::either(passive[i], 1e300, x[i] * ieee_root::sqrt(gain[i]));
     }
 }
 
 // Where the free values would keep what they keep now, but for their bounds.
-fn begins(x: &[f64], reach: &[f64], dv: &[f64]) -> f64
-    requires { (length reach.now ≡ length x.now) × (length dv.now ≡ length x.now) }
+fn begins(at: Sloped, reach: &[f64]) -> f64
+    requires { length reach.now ≡ length at.problem.x.now }
 {
+    let Problem { x, dv, .. } = at.problem;
     let mut a = 0.0;
     let mut b = 0.0;
-    let mut i = 0usize;
-    while i < x.len() {
-        let free = reach[i] < 1e299;
+    for (i, r) in reach.iter().enumerate() {
+        let free = *r < 1e299;
         a = a + lists::either(free, dv[i] * x[i], 0.0);
-        b = b + lists::either(free, dv[i] * reach[i], 0.0);
-        i += 1usize;
+        b = b + lists::either(free, dv[i] * *r, 0.0);
     }
     a / b
 }
 
 // By Newton's iteration between bounds.
-fn met(x: &[f64], reach: &[f64], dv: &[f64], m: f64, add: f64, tolerance: f64, begin: f64) -> Where
-    requires { (length reach.now ≡ length x.now) × (length dv.now ≡ length x.now) }
+fn met(at: Sloped, reach: &[f64], add: f64, tolerance: f64) -> Where
+    requires { length reach.now ≡ length at.problem.x.now }
 {
     let mut low = 0.0;
     let mut high = 1e300;
-    let mut w = begin;
+    let mut w = begins(at, reach);
     let mut slope = 0.0;
-    let mut turns = 0usize;
-    while turns < 60 {
-        let r = roughly(x, reach, dv, m, w);
+    for _ in 0..60 {
+        let r = roughly(at, reach, w);
         let lacks = add - r.volume;
         slope = r.slope;
         if ieee::abs(lacks) <= tolerance {
@@ -123,50 +134,35 @@ fn met(x: &[f64], reach: &[f64], dv: &[f64], m: f64, add: f64, tolerance: f64, b
         let inside = (next > low) & (next < high);
         let half = lists::either(high < 1e300, 0.5 * (low + high), 2.0 * w);
         w = lists::either(inside, next, half);
-        turns += 1usize;
     }
     Where { w, slope }
 }
 
 // The bracket that halving is likely to come to, all but its last rate.
-pub fn guess(
-    x: &[f64],
-    reach: &[f64],
-    dv: &[f64],
-    m: f64,
-    target: f64,
-    tolerance: f64,
-    solid: f64,
-    first: f64,
-) -> Known
-    requires { (length reach.now ≡ length x.now) × (length dv.now ≡ length x.now) }
+pub fn guess(at: Sloped, reach: &[f64], first: f64) -> Bracket
+    requires { length reach.now ≡ length at.problem.x.now }
 {
-    let at = met(
-        x,
-        reach,
-        dv,
-        m,
-        target - solid,
-        0.01 * tolerance,
-        begins(x, reach, dv),
-    );
-    let w = at.w;
+    let Problem {
+        target,
+        tolerance,
+        ..
+    } = at.problem;
+    let Where { w, slope } = met(at, reach, target - at.solid, 0.01 * tolerance);
     let rate = 1.0 / (w * w);
     // a rate that differs by this share keeps a volume off the target
-    let off = 1.1 * tolerance / (0.5 * w * at.slope);
-    let mut below = 0.0;
-    let mut above = first;
-    let mut passes = 1usize;
-    while passes < PASSES {
-        let mid = 0.5 * (below + above);
-        let done = ieee::abs(mid / rate - 1.0) <= off;
-        if done | (mid <= below) | (mid >= above) {
-            return Known { below, above };
+    let off = 1.1 * tolerance / (0.5 * w * slope);
+    let mut bracket = Bracket {
+        low: 0.0,
+        high: first,
+    };
+    for _ in 1..PASSES {
+        let Some(middle) = bracket.middle() else {
+            return bracket;
+        };
+        if ieee::abs(middle / rate - 1.0) <= off {
+            return bracket;
         }
-        let more = mid < rate;
-        below = lists::either(more, mid, below);
-        above = lists::either(more, above, mid);
-        passes += 1usize;
+        bracket = bracket.halved(middle, middle < rate);
     }
-    Known { below, above }
+    bracket
 }

@@ -1,5 +1,6 @@
 -- The volume kept by what each element adds. Assumes nothing.
 use mathlib.Core.Path.{◌≡◌, sym, ap, ◌∙◌}
+use Rattle.std.proofs.Common.{Some}
 use mathlib.Core.Bool.{Bool, false}
 use mathlib.Core.List.{List}
 use Prim.Native.Nat.{ℕ, ◌+◌, min}
@@ -11,7 +12,6 @@ use Rattle.lists.proofs.Laws.{sum_to-more, get_or-tabulate, length-tabulate, sum
 use Rattle.ieee.specs.Basic.{one64, clamp_of}
 use Rattle.ieee_tanh.specs.Tanh.{tanh_of}
 use Rattle.filter_table.specs.Table.{row_sum, applied}
-use Rattle.oc_seen.specs.declared.Sharpness.TheVariants.{At}
 use Rattle.oc_project.specs.Project.{below_of, whole_of, turned, projected}
 use Rattle.oc_record.specs.Record.{dot}
 use Rattle.oc_seen.specs.Seen.{sharpened, element_density, densities, seen_density}
@@ -38,12 +38,12 @@ module _ (beta : Float) (starts near : List ℕ) (coef volumes : List Float) (pa
   -- ---- all of them
   -- an element's density, by the list of the filtered values
   abbrev seen : ℕ → Float
-  seen e = element_density (At beta) (get_or passive e false) (get_or (tabulate sums (length passive)) e nan)
+  seen e = element_density (Some beta) (get_or passive e false) (get_or (tabulate sums (length passive)) e nan)
 
-  pub parts_are : sum_to (part beta starts near coef volumes passive y) (min (length volumes) (length passive)) ≡ dot volumes (seen_density (At beta) starts near coef passive y)
+  pub parts_are : sum_to (part beta starts near coef volumes passive y) (min (length volumes) (length passive)) ≡ dot volumes (seen_density (Some beta) starts near coef passive y)
   unfolding dot seen_density densities applied part
   parts_are =
       let share : ℕ → Float = λ k. mul binary64 (get_or volumes k nan) (get_or (tabulate seen (length passive)) k nan) in
       sum_to-same (part beta starts near coef volumes passive y) share (min (length volumes) (length passive))
-      (λ k h. ap (mul binary64 (get_or volumes k nan)) (sym (get_or-tabulate seen (length passive) k nan (omega arith) ∙ ap (element_density (At beta) (get_or passive k false)) (get_or-tabulate sums (length passive) k nan (omega arith)))))
+      (λ k h. ap (mul binary64 (get_or volumes k nan)) (sym (get_or-tabulate seen (length passive) k nan (omega arith) ∙ ap (element_density (Some beta) (get_or passive k false)) (get_or-tabulate sums (length passive) k nan (omega arith)))))
       ∙ ap (λ (n : ℕ). sum_to share (min (length volumes) n)) (sym (length-tabulate seen (length passive)))

@@ -1,2 +1,3 @@
--- `Part` has what one element adds to the volume kept.
+-- `Part` has what one element adds to the volume kept, and `Sums` the sums of that.
 pub mod Part
+pub mod Sums

@@ -2,18 +2,9 @@
 // alone.
 #![tactic(auto)]
 
-ghost use Rattle.std.specs.Prelude.{◌≡◌, ◌+◌, ◌<◌, length, get_or, false};
-ghost use Rattle.std.specs.Float.{nan, binary64};
-ghost use Rattle.std.specs.Float.Ieee.{add, mul, div};
-ghost use Rattle.lists.specs.Lists.{sum_to, choose};
-ghost use Rattle.ieee.specs.Basic.{one64};
-ghost use Rattle.filter_table.specs.Table.{Wf, Within, row_sum};
-ghost use Rattle.oc_seen.specs.declared.Sharpness.TheVariants.{At};
-ghost use Rattle.oc_project.specs.Project.{below_of, whole_of};
-ghost use Rattle.oc_record.specs.Record.{dot};
-ghost use Rattle.oc_seen.specs.Seen.{seen_density};
-ghost use Rattle.update_two.specs.Part.{bent as bent_of, part};
+ghost use Rattle.std.specs.Prelude.{◌≡◌, length};
 
+use filter_table::{Table, WellFormed};
 use oc_project::Projection;
 
 // A number of each design.
@@ -23,153 +14,129 @@ pub struct Two {
     pub b: f64,
 }
 
-// A row's sum over both designs.
-fn row(near: &[u32], coef: &[f64], x: &[f64], y: &[f64], from: usize, to: usize) -> Two
-    requires { Within near.now coef.now from to (length x.now) × (length y.now ≡ length x.now) }
-    ensures { (result.a ≡ row_sum near.now coef.now x.now from to) × (result.b ≡ row_sum near.now coef.now y.now from to) }
-{
-    let mut a = 0.0;
-    let mut b = 0.0;
-    let mut k = from;
-    while k < to {
-        let j = near[k] as usize;
-        let c = coef[k];
-        a = a + c * x[j];
-        b = b + c * y[j];
-        k += 1usize;
+// What the volumes of sharpened designs are reckoned by.
+#[derive(Clone, Copy)]
+pub struct Reckoning<'a> {
+    pub at: Projection,
+    pub formed: WellFormed<'a>,
+    pub volumes: &'a [f64],
+    pub passive: &'a [bool],
+    pub ghost rows: { formed.rows ≡ length passive.now },
+}
+
+impl<'a> Reckoning<'a> {
+    ghost use Rattle.std.specs.Prelude.{◌≡◌, ◌+◌, ◌<◌, length, get_or, false};
+    ghost use Rattle.std.specs.Float.{nan, binary64};
+    ghost use Rattle.std.specs.Float.Ieee.{add, mul, div};
+    ghost use Rattle.lists.specs.Lists.{choose};
+    ghost use Rattle.ieee.specs.Basic.{one64};
+    ghost use Rattle.filter_table.specs.Table.{Within, row_sum};
+    ghost use Rattle.update_two.specs.Part.{bent as bent_of};
+    ghost use Rattle.update_two.specs.Sums.{bent_at, volume_to, volume_of, Designs};
+
+    // A row's sum over both designs.
+    #[tactic(auto, using(filter_table::proofs::Laws::summing), unfolding(filter_table::specs::Table::product, filter_table::specs::Table::row_sum))]
+    fn row(near: &[u32], coef: &[f64], x: &[f64], y: &[f64], from: usize, to: usize) -> Two
+        requires { Within near.now coef.now from to (length x.now) × (length y.now ≡ length x.now) }
+        ensures { (result.a ≡ row_sum near.now coef.now x.now from to) × (result.b ≡ row_sum near.now coef.now y.now from to) }
+    {
+        let mut a = 0.0;
+        let mut b = 0.0;
+        for k in from..to {
+            let j = near[k] as usize;
+            let c = coef[k];
+            a = a + c * x[j];
+            b = b + c * y[j];
+        }
+        Two { a, b }
     }
-    Two { a, b }
-}
 
-// What `project` takes the tanh of.
-fn bent(beta: f64, v: f64) -> f64
-    ensures { result ≡ bent_of beta v }
-{
-    beta * (ieee::clamp(v) - topo::PROJECT_AT)
-}
-
-// The same of element e's filtered values.
-fn place(
-    beta: f64,
-    starts: &[u32],
-    near: &[u32],
-    coef: &[f64],
-    x: &[f64],
-    y: &[f64],
-    n: usize,
-    e: usize,
-) -> Two
-    requires { Wf starts.now near.now coef.now n (length x.now) × (length y.now ≡ length x.now) × (e < n) }
-    ensures { (result.a ≡ bent_of beta (row_sum near.now coef.now x.now (get_or starts.now e 0) (get_or starts.now (e + 1) 0))) × (result.b ≡ bent_of beta (row_sum near.now coef.now y.now (get_or starts.now e 0) (get_or starts.now (e + 1) 0))) }
-{
-    let from = starts[e] as usize;
-    let to = starts[e + 1usize] as usize;
-    let s = row(near, coef, x, y, from, to);
-    Two {
-        a: bent(beta, s.a),
-        b: bent(beta, s.b),
+    // What `project` takes the tanh of.
+    #[tactic(auto, unfolding(crate::specs::Part::bent))]
+    fn bent(beta: f64, v: f64) -> f64
+        ensures { result ≡ bent_of beta v }
+    {
+        beta * (ieee::clamp(v) - topo::PROJECT_AT)
     }
-}
 
-// A sum with element e's volume added, t its tanh.
-fn grown(at: Projection, passive: &[bool], volumes: &[f64], e: usize, t: f64, sum: f64) -> f64
-    requires { (e < length passive.now) × (e < length volumes.now) }
-    ensures { result ≡ add binary64 sum (mul binary64 (get_or volumes.now e nan) (choose (get_or passive.now e false) one64 (div binary64 (add binary64 at.below t) at.whole))) }
-{
-    let below = at.below;
-    let whole = at.whole;
-    sum + volumes[e] * lists::either(passive[e], 1.0, (below + t) / whole)
-}
-
-// Four elements from e on.
-fn four(
-    at: Projection,
-    starts: &[u32],
-    near: &[u32],
-    coef: &[f64],
-    volumes: &[f64],
-    passive: &[bool],
-    x: &[f64],
-    y: &[f64],
-    e: usize,
-    sum: Two,
-) -> Two
-    requires below_value { (at.below ≡ below_of at.beta) × (at.whole ≡ whole_of at.beta) }
-    requires wf { Wf starts.now near.now coef.now (length passive.now) (length x.now) × (length y.now ≡ length x.now) × (e + 3 < length passive.now) × (e + 3 < length volumes.now) }
-    requires a_value { (sum.a ≡ sum_to (part at.beta starts.now near.now coef.now volumes.now passive.now x.now) e) × (sum.b ≡ sum_to (part at.beta starts.now near.now coef.now volumes.now passive.now y.now) e) }
-    ensures { (result.a ≡ sum_to (part at.beta starts.now near.now coef.now volumes.now passive.now x.now) (e + 4)) × (result.b ≡ sum_to (part at.beta starts.now near.now coef.now volumes.now passive.now y.now) (e + 4)) }
-{
-    let n = passive.len();
-    let beta = at.beta;
-    let f = e + 1usize;
-    let g = e + 2usize;
-    let h = e + 3usize;
-    let p = place(beta, starts, near, coef, x, y, n, e);
-    let q = place(beta, starts, near, coef, x, y, n, f);
-    let r = place(beta, starts, near, coef, x, y, n, g);
-    let s = place(beta, starts, near, coef, x, y, n, h);
-    let t = ieee_lanes::tanh_each(p.a, p.b, q.a, q.b, r.a, r.b, s.a, s.b);
-    let a = grown(at, passive, volumes, e, t.a, sum.a);
-    let b = grown(at, passive, volumes, e, t.b, sum.b);
-    let a = grown(at, passive, volumes, f, t.c, a);
-    let b = grown(at, passive, volumes, f, t.d, b);
-    let a = grown(at, passive, volumes, g, t.e, a);
-    let b = grown(at, passive, volumes, g, t.f, b);
-    let a = grown(at, passive, volumes, h, t.g, a);
-    let b = grown(at, passive, volumes, h, t.h, b);
-    Two { a, b }
-}
-
-// One element.
-fn one(
-    at: Projection,
-    starts: &[u32],
-    near: &[u32],
-    coef: &[f64],
-    volumes: &[f64],
-    passive: &[bool],
-    x: &[f64],
-    y: &[f64],
-    e: usize,
-    sum: Two,
-) -> Two
-    requires below_value { (at.below ≡ below_of at.beta) × (at.whole ≡ whole_of at.beta) }
-    requires wf { Wf starts.now near.now coef.now (length passive.now) (length x.now) × (length y.now ≡ length x.now) × (e < length passive.now) × (e < length volumes.now) }
-    requires a_value { (sum.a ≡ sum_to (part at.beta starts.now near.now coef.now volumes.now passive.now x.now) e) × (sum.b ≡ sum_to (part at.beta starts.now near.now coef.now volumes.now passive.now y.now) e) }
-    ensures { (result.a ≡ sum_to (part at.beta starts.now near.now coef.now volumes.now passive.now x.now) (e + 1)) × (result.b ≡ sum_to (part at.beta starts.now near.now coef.now volumes.now passive.now y.now) (e + 1)) }
-{
-    let beta = at.beta;
-    let p = place(beta, starts, near, coef, x, y, passive.len(), e);
-    let a = grown(at, passive, volumes, e, ieee_tanh::tanh(p.a), sum.a);
-    let b = grown(at, passive, volumes, e, ieee_tanh::tanh(p.b), sum.b);
-    Two { a, b }
-}
-
-// Internal: the table is well formed, and the designs have one length.
-pub fn kept(
-    beta: f64,
-    starts: &[u32],
-    near: &[u32],
-    coef: &[f64],
-    volumes: &[f64],
-    passive: &[bool],
-    x: &[f64],
-    y: &[f64],
-) -> Two
-    requires { Wf starts.now near.now coef.now (length passive.now) (length x.now) × (length y.now ≡ length x.now) }
-    ensures { (result.a ≡ dot volumes.now (seen_density (At beta) starts.now near.now coef.now passive.now x.now)) × (result.b ≡ dot volumes.now (seen_density (At beta) starts.now near.now coef.now passive.now y.now)) }
-{
-    let at = oc_project::at_steepness(beta);
-    let n = lists::lesser(volumes.len(), passive.len());
-    let mut sum = Two { a: 0.0, b: 0.0 };
-    let mut e = 0usize;
-    while e + 3usize < n {
-        sum = four(at, starts, near, coef, volumes, passive, x, y, e, sum);
-        e += 4usize;
+    // The same of element e's filtered values.
+    // Stays, here and below, that both designs are as long as the rows reach: a struct of the two would be made again at each call, since one of them is written between two calls.
+    fn place(self, x: &[f64], y: &[f64], e: usize) -> Two
+        requires { Designs self x.now y.now × (e < length self.passive.now) }
+        ensures { (result.a ≡ bent_at self.entry x.now e) × (result.b ≡ bent_at self.entry y.now e) }
+    {
+        let Table { starts, near, coef } = self.formed.table;
+        let beta = self.at.beta;
+        let from = starts[e] as usize;
+        let to = starts[e + 1] as usize;
+        let s = Self::row(near, coef, x, y, from, to);
+        Two {
+            a: Self::bent(beta, s.a),
+            b: Self::bent(beta, s.b),
+        }
     }
-    while e < n {
-        sum = one(at, starts, near, coef, volumes, passive, x, y, e, sum);
-        e += 1usize;
+
+    // A sum with element e's volume added, t its tanh.
+    fn grown(self, e: usize, t: f64, sum: f64) -> f64
+        requires { (e < length self.passive.now) × (e < length self.volumes.now) }
+        ensures { let r = self.entry in result ≡ add binary64 sum (mul binary64 (get_or r.volumes.now e nan) (choose (get_or r.passive.now e false) one64 (div binary64 (add binary64 r.at.below t) r.at.whole))) }
+    {
+        let below = self.at.below;
+        let whole = self.at.whole;
+        sum + self.volumes[e] * lists::either(self.passive[e], 1.0, (below + t) / whole)
     }
-    sum
+
+    // Four elements from e on.
+    fn four(self, x: &[f64], y: &[f64], e: usize, sum: Two) -> Two
+        requires designs { Designs self x.now y.now }
+        requires within { (e + 3 < length self.passive.now) × (e + 3 < length self.volumes.now) }
+        requires sums { (sum.a ≡ volume_to self x.now e) × (sum.b ≡ volume_to self y.now e) }
+        ensures { (result.a ≡ volume_to self.entry x.now (e + 4)) × (result.b ≡ volume_to self.entry y.now (e + 4)) }
+    {
+        let p = self.place(x, y, e);
+        let q = self.place(x, y, e + 1);
+        let r = self.place(x, y, e + 2);
+        let s = self.place(x, y, e + 3);
+        let t = ieee_lanes::tanh_each([p.a, p.b, q.a, q.b, r.a, r.b, s.a, s.b]);
+        let a = self.grown(e, t[0], sum.a);
+        let b = self.grown(e, t[1], sum.b);
+        let a = self.grown(e + 1, t[2], a);
+        let b = self.grown(e + 1, t[3], b);
+        let a = self.grown(e + 2, t[4], a);
+        let b = self.grown(e + 2, t[5], b);
+        let a = self.grown(e + 3, t[6], a);
+        let b = self.grown(e + 3, t[7], b);
+        Two { a, b }
+    }
+
+    // One element.
+    fn one(self, x: &[f64], y: &[f64], e: usize, sum: Two) -> Two
+        requires designs { Designs self x.now y.now }
+        requires within { (e < length self.passive.now) × (e < length self.volumes.now) }
+        requires sums { (sum.a ≡ volume_to self x.now e) × (sum.b ≡ volume_to self y.now e) }
+        ensures { (result.a ≡ volume_to self.entry x.now (e + 1)) × (result.b ≡ volume_to self.entry y.now (e + 1)) }
+    {
+        let p = self.place(x, y, e);
+        Two {
+            a: self.grown(e, ieee_tanh::tanh(p.a), sum.a),
+            b: self.grown(e, ieee_tanh::tanh(p.b), sum.b),
+        }
+    }
+
+    // The volumes that two designs keep.
+    pub fn kept(self, x: &[f64], y: &[f64]) -> Two
+        requires { Designs self x.now y.now }
+        ensures { (result.a ≡ volume_of self.entry x.now) × (result.b ≡ volume_of self.entry y.now) }
+    {
+        let n = self.volumes.len().min(self.passive.len());
+        let fours = n / 4;
+        let mut sum = Two { a: 0.0, b: 0.0 };
+        for k in 0..fours {
+            sum = self.four(x, y, 4 * k, sum);
+        }
+        for e in 4 * fours..n {
+            sum = self.one(x, y, e, sum);
+        }
+        sum
+    }
 }

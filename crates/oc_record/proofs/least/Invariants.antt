@@ -1,5 +1,4 @@
 -- `oc_record::least` meets its contract: the least so far is the fold over the places passed. Assumes nothing.
-use Prim.Native.Nat.{◌-◌, ◌≤◌}
 use Rattle.ieee.specs.Basic.{one64, min_of}
 use Rattle.lists.specs.Lists.{fold_to, choose}
 use Rattle.oc_record.proofs.least.Given as goal
@@ -9,7 +8,4 @@ use mathlib.Core.Bool.{false}
 use mathlib.Core.Path.{◌≡◌}
 
 abbrev pub invariant-loop-i : goal.invariant-loop-i
-invariant-loop-i l = (l.i ≤ l.n) × (l.m ≡ fold_to (λ k m. choose (get_or l.passive k false) m (min_of (get_or l.design k nan) m)) one64 l.i)
-
-abbrev pub decreases-loop-i : goal.decreases-loop-i
-decreases-loop-i l = l.n - l.i
+invariant-loop-i l = l.m ≡ fold_to (λ k m. choose (get_or l.passive k false) m (min_of (get_or l.design k nan) m)) one64 l.i

@@ -1,5 +1,4 @@
 -- `oc_start::solid_volume` meets its contract: what is added up is the fold over the places passed. Assumes nothing.
-use Prim.Native.Nat.{◌-◌, ◌≤◌}
 use Rattle.lists.specs.Lists.{fold_to, choose, zero64}
 use Rattle.oc_start.proofs.solid_volume.Given as goal
 use lib.Ieee.{nan, binary64, add}
@@ -8,7 +7,4 @@ use mathlib.Core.Bool.{false}
 use mathlib.Core.Path.{◌≡◌}
 
 abbrev pub invariant-loop-i : goal.invariant-loop-i
-invariant-loop-i l = (l.i ≤ l.n) × (l.t ≡ fold_to (λ k t. choose (get_or l.passive k false) (add binary64 t (get_or l.volumes k nan)) t) zero64 l.i)
-
-abbrev pub decreases-loop-i : goal.decreases-loop-i
-decreases-loop-i l = l.n - l.i
+invariant-loop-i l = l.t ≡ fold_to (λ k t. choose (get_or l.passive k false) (add binary64 t (get_or l.volumes k nan)) t) zero64 l.i

@@ -1,18 +1,8 @@
--- `oc_start::start_design` meets its contract: the places passed are filled. Assumes nothing.
-use Rattle.lists.proofs.Filled.{stored, filled}
-use Rattle.lists.proofs.Laws.{overwrite-none}
-use Rattle.oc_start.proofs.start_design.Goals as goal
+use Rattle.std.proofs.Common.{arith}
+use Rattle.lists.proofs.Filled.{filled}
 use Rattle.oc_start.specs.Start.{start_design}
-use borrow.Author.Rules.{rules}
-use mathlib.Core.Path.{refl, sym}
-use native.Mathlib.Omega.{arith}
-
-pub loop-i-init : goal.loop-i-init
-loop-i-init c = (search rules, refl, sym (overwrite-none _ _))
-
-pub loop-i-preserved : goal.loop-i-preserved
-loop-i-preserved c = (search rules, search rules, stored _ _ _ _ c.loop-i.invariant.2 _ (omega arith) c.either.ensures)
+use Rattle.oc_start.proofs.start_design.Goals as goal
 
 pub returns : goal.returns
 unfolding start_design
-returns c = filled _ _ _ _ c.loop-i.invariant.2 _ (omega arith) (omega arith)
+returns c = filled _ _ _ _ c.loop-i.invariant _ (omega arith) (omega arith)

@@ -12,9 +12,9 @@ unfolding whole_tree
 returns c = let a = c.args in
     let nodes = a.nodes.now in
     let tris = a.tris.now in
-    let e : length a.order.now ≡ length (faces_of nodes tris) = c.requires.order-fit ∙ sym c.requires.faces-fit ∙ sym c.gather.auto.faces ∙ ap length c.gather.ensures in
+    let e : length a.work.order.now ≡ length (faces_of nodes tris) = c.requires.order-fit ∙ sym c.requires.faces-fit ∙ sym c.gather.auto.faces ∙ ap length c.gather.ensures in
     let eN = c.number.auto.order ∙ e in
     let eO = c.number.ensures ∙ ap (tabulate (λ k. k)) e in
     let eT = c.build.ensures ∙ (λ i. tree_of (c.gather.ensures i) (eN i) (eO i)) in
     let eS = c.mark.ensures ∙ ap (tabulate (is_corner tris)) c.requires.seen-fit in
-    c.farthest.ensures ∙ far-is nodes tris a.mirror _ _ _ c.gather.ensures eT eS
+    c.farthest-far.ensures ∙ far-is nodes tris a.mirror _ _ _ c.gather.ensures eT eS

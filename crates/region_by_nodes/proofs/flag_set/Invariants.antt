@@ -8,4 +8,4 @@ use mathlib.Core.List.{[]}
 use mathlib.Core.Path.{◌≡◌}
 
 abbrev pub invariant-loop-t : goal.invariant-loop-t
-invariant-loop-t it = it.keep ≡ fold_to (λ i l. choose (in_set it.b.surfaces.now it.b.starts.now it.b.kept.now it.s i) (flagged (get_or it.b.tris.now i []) 6 l) l) it.initial.keep it.t
+invariant-loop-t it = it.keep ≡ fold_to (λ i l. choose (in_set it.set.boundary.surfaces.now it.set.boundary.starts.now it.set.boundary.kept.now it.set.number i) (flagged (get_or it.set.boundary.tris.now i []) 6 l) l) it.initial.keep it.t

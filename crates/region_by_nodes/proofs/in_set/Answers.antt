@@ -8,4 +8,4 @@ use mathlib.Core.Path.{◌∙◌}
 pub returns : goal.returns
 unfolding of_set
 returns c = let a = c.args in
-    c.contains.ensures.value ∙ any-between (λ k. eqb k a.surface) a.b.kept.now _ _ c.min-end.result c.min-from.result c.min-end.ensures c.min-from.ensures
+    c.contains.ensures.value ∙ any-between (λ k. eqb k a.surface) a.kept.now _ _ c.min-end.result c.min-from.result c.min-end.ensures c.min-from.ensures

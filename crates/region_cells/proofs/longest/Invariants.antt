@@ -8,4 +8,4 @@ use mathlib.Core.List.{[]}
 use mathlib.Core.Path.{◌≡◌}
 
 abbrev pub invariant-loop-t : goal.invariant-loop-t
-invariant-loop-t l = l.m ≡ fold_to (λ i w. choose (in_set l.b.surfaces.now l.b.starts.now l.b.kept.now l.s i) (longer (corners_of l.nodes (get_or l.b.tris.now i [])) w) w) zero64 l.t
+invariant-loop-t l = l.m ≡ fold_to (λ i w. choose (in_set l.set.boundary.surfaces.now l.set.boundary.starts.now l.set.boundary.kept.now l.set.number i) (longer (corners_of l.nodes (get_or l.set.boundary.tris.now i [])) w) w) zero64 l.t

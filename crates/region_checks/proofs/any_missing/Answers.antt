@@ -2,7 +2,7 @@
 use Rattle.std.proofs.Common.{rules, tests, ◌∙◌, [], length, refl}
 use Rattle.std.proofs.lemmas.Iterator.{YieldsList-from_slice}
 use Rattle.std.proofs.lemmas.Iterator.Search.{any_from_yields_List}
-use Rattle.region_checks.proofs.Any.{any_of}
+use Rattle.lists.proofs.Any.{any_of}
 use Rattle.region_checks.proofs.any_missing.Goals as goal
 use Rattle.region_checks.specs.Boundary.{missing_in, any_missing}
 

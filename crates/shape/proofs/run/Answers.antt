@@ -1,5 +1,5 @@
 -- `run` lends its lists whole. Assumes nothing.
-use Prim.Native.Nat.{ℕ, ◌+◌, ◌≤◌, min}
+use Prim.Native.Nat.{ℕ}
 use Rattle.run_plain.specs.Lent.{open_work, answer_work}
 use Rattle.shape.proofs.run.Goals as goal
 use Rattle.shape.specs.Shape.{lists, outcome_from}
@@ -14,14 +14,7 @@ use lib.ListN.{length}
 use lib.Seq.{length-take-le}
 use mathlib.Core.Bool.{Bool, false}
 use mathlib.Core.List.{List}
-use mathlib.Core.Path.{◌≡◌, sym, ap}
-use native.Mathlib.Omega.{arith}
-
--- the place after a text is in the list or at its end
-inside : {text : List ℕ} {a b : List ℕ} {n : ℕ} → Wrote text 0 a b n → n ≤ length a
-inside {text} {a} {b} {n} u =
-    let e : n ≡ min (0 + length text) (length a) = u.end in
-    omega arith
+use mathlib.Core.Path.{◌≡◌, ap}
 
 -- the energies have a place for each element
 sized : (goal : Goal) (v : List Float) (c : List (List Float)) (ws : List Float) (p : List Bool) (m : List (List Float)) {n r : ℕ} {a b : List ℕ} → n ≡ length v
@@ -30,8 +23,5 @@ sized : (goal : Goal) (v : List Float) (c : List (List Float)) (ws : List Float)
 unfolding outcome_from
 sized goal v c ws p m e w = retext (ap (λ (k : ℕ). text_of (outcome_of (job_of ws k (open_work 256) (answer_work 256) (record { centroids = c; mirrors = m; goal = goal; flag = false }) (lists v p)))) e) w
 
-pub slice_bounds-text-end-7 : goal.slice_bounds-text-end-7
-slice_bounds-text-end-7 c = sym (length-take-le _ _ c.requires)
-
-pub returns : goal.returns
-returns c = record { upper_bound = inside c.text.ensures; wrote = sized _ _ _ _ _ _ (length-take-le _ _ c.requires) c.text.ensures }
+pub returns-clause-wrote : goal.returns-clause-wrote
+returns-clause-wrote c = sized _ _ _ _ _ _ (length-take-le _ _ c.requires) c.text.ensures.wrote

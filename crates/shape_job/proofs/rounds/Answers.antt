@@ -1,18 +1,23 @@
--- `rounds` meets its contract. The invariant: the answers that are left give what all give. Assumes nothing.
-use Rattle.shape_job.proofs.Answers.{answers-none, answers-over, answers-more, Long, same_lengths}
+-- `rounds` meets its contract. Assumes nothing.
+use Rattle.shape_job.proofs.Answers.{answers-none, answers-over, answers-more}
 use Rattle.shape_job.proofs.rounds.Goals as goal
 use mathlib.Core.Path.{sym, ◌∙◌}
 use native.Mathlib.Omega.{arith}
 
-pub loop-left-preserved : goal.loop-left-preserved
-loop-left-preserved c =
-    let x = c.loop-left in
-    let long : Long (record { free = x.free; slope = x.slope; spare = x.spare; dc = x.dc; dv = x.dv }) _ = record { free = x.auto.free; slope = x.auto.slope; spare = x.auto.spare; dc = x.auto.dc; dv = x.auto.dv } in
-    let asked = sym c.asks.ensures ∙ c.if-asks.true in
-    answers-more _ _ _ _ _ _ _ _ x.auto.energies (same_lengths _ _ long) asked c.loop-left-test.true c.turn-t.ensures ∙ x.invariant
+pub returns-then-not-asks-clause-answered : goal.returns-then-not-asks-clause-answered
+returns-then-not-asks-clause-answered c = answers-over _ _ _ _ _ (sym c.asks.ensures ∙ c.if-not-asks.true) ∙ c.loop.invariant.0
 
-pub returns-else-asks : goal.returns-else-asks
-returns-else-asks c = answers-over _ _ _ _ _ (sym c.asks.ensures ∙ c.if-asks.false) ∙ c.loop-left.invariant
+pub loop-preserved : goal.loop-preserved
+loop-preserved c =
+    let x = c.loop in
+    let t = c.turn-returned.ensures in
+    let f = x.invariant.2 in
+    let w = x.invariant.3 in (
+      answers-more _ _ _ _ _ _ _ _ _ x.auto.energies x.invariant.1 (sym c.asks.ensures ∙ c.if-not-asks.false) (omega arith) t.answered ∙ x.invariant.0,
+      t.same_lengths ∙ x.invariant.1,
+      record { design = t.same_fields.design ∙ f.design; density = t.same_fields.density ∙ f.density; last = t.same_fields.last ∙ f.last },
+      record { free = t.same_work.free ∙ w.free; slope = t.same_work.slope ∙ w.slope; spare = t.same_work.spare ∙ w.spare; dc = t.same_work.dc ∙ w.dc; dv = t.same_work.dv ∙ w.dv },
+    )
 
-pub returns : goal.returns
-returns c = answers-none _ _ _ _ _ (omega arith) ∙ c.loop-left.invariant
+pub returns-clause-answered : goal.returns-clause-answered
+returns-clause-answered c = answers-none _ _ _ _ _ (omega arith) ∙ c.loop.invariant.0

@@ -1,21 +1,20 @@
 -- `run` meets its contract: the answers to what the opening asks. Assumes nothing.
-use Rattle.run_answer.specs.Answers.{lengths_of}
-use Rattle.run_open_checks.specs.Opens.{lengths_of as open_lengths}
-use Rattle.run_plain.specs.Calls.{Core, lists_of, Asked, open_of}
-use Rattle.run_plain.specs.declared.State.{State}
+use Rattle.run_plain.specs.Held.{working, lengths_of}
 use Rattle.shape_job.proofs.run.Goals as goal
+use Rattle.shape_job.specs.Held.{lists_by, result_in}
 use Rattle.shape_job.specs.Job.{answers_from, job_of}
 use lib.ListN.{length}
-use mathlib.Core.Bool.{false}
-use mathlib.Core.Path.{ap, ◌∙◌}
+use mathlib.Core.Path.{sym, ap, ◌∙◌}
 
-pub returns : goal.returns
+pub returns-clause-ran : goal.returns-clause-ran
 unfolding job_of
-returns c =
+returns-clause-ran c =
     let a = c.args in
-    let g : Asked = record { centroids = a.centroids.now; mirrors = a.mirrors.now; goal = a.goal; flag = false } in
-    let room = open_lengths (record { cell = a.cell.now; order = a.order.now; first = a.first.now; sorted = a.sorted.now; stamp = a.stamp.now; weight = a.weight.now; found = a.found.now; bits = a.bits.now }) in
-    let lent : Core = record { volumes = a.volumes.now; passive = a.passive.now; starts = a.starts.now; near = a.near.now; coef = a.coef.now; design = a.design.now; density = a.density.now; last = a.last.now } in
-    let work = lengths_of (record { free = a.free.now; slope = a.slope.now; spare = a.spare.now; dc = a.dc.now; dv = a.dv.now }) in
-    let opened = c.open-t.ensures.same ∙ ap (λ (s : State). open_of s g room (lists_of lent a.history)) c.fresh.ensures in
-    c.rounds.ensures ∙ ap (answers_from a.weights.now (length a.energies.now) work 65) opened
+    let t = c.made-table.ensures in
+    let o = c.open-opened in
+    let r = c.answer_all in
+    let all = answers_from a.weights.now (length a.energies.now) (lengths_of (working a.answers.now)) 65 in
+    (λ i. result_in r.result (lists_by a.job (sym t.starts i) (sym t.near i) (sym t.coef i) r.new.fields r.new.history))
+    ∙ r.ensures.answered
+    ∙ (λ i. all (result_in o.result (lists_by a.job (t.starts i) (t.near i) (t.coef i) o.new.fields o.new.history)))
+    ∙ ap all o.ensures.opened

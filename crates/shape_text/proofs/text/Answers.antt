@@ -6,6 +6,6 @@ use Rattle.shape_text.proofs.text.Goals as goal
 use Rattle.shape_text.specs.Printed.{outcome_of}
 use mathlib.Core.Path.{ap}
 
-pub returns : goal.returns
+pub returns-clause-wrote : goal.returns-clause-wrote
 unfolding outcome_of
-returns c = retext (ap (λ (r : Result). text_of (outcome_of r)) c.run-t.ensures) c.outcome.ensures
+returns-clause-wrote c = retext (ap (λ (r : Result). text_of (outcome_of r)) c.run-returned.ensures.ran) c.outcome.ensures

@@ -1,18 +1,8 @@
--- `update_design::gains` meets its contract: the places passed are filled. Assumes nothing.
-use Rattle.lists.proofs.Filled.{stored, filled}
-use Rattle.lists.proofs.Laws.{overwrite-none}
+use Rattle.lists.proofs.Filled.{filled}
 use Rattle.update_design.proofs.gains.Goals as goal
 use Rattle.update_design.specs.Design.{gains_of}
-use borrow.Author.Rules.{rules}
-use mathlib.Core.Path.{refl, sym}
 use native.Mathlib.Omega.{arith}
-
-pub loop-i-init : goal.loop-i-init
-loop-i-init c = (search rules, refl, sym (overwrite-none _ _))
-
-pub loop-i-preserved : goal.loop-i-preserved
-loop-i-preserved c = (search rules, search rules, stored _ _ _ _ c.loop-i.invariant.2 _ (omega arith) c.gain_of.ensures)
 
 pub returns : goal.returns
 unfolding gains_of
-returns c = filled _ _ _ _ c.loop-i.invariant.2 _ (omega arith) (omega arith)
+returns c = filled _ _ _ _ c.loop-i.invariant _ (omega arith) (omega arith)

@@ -1,15 +1,8 @@
 -- `filter_meet::prepare::file_all` meets its contract: the calls' promises, put together. Assumes nothing.
 use Rattle.filter_meet.proofs.Preparing.{prepared}
 use Rattle.filter_meet.proofs.prepare.file_all.Goals as goal
-use lib.ListN.{length}
-use mathlib.Core.Path.{◌≡◌, ◌∙◌}
-use native.Mathlib.Omega.{arith}
-
-pub arrange-requires : goal.arrange-requires
-arrange-requires c = let many : length c.cells_of.new.cells ≡ length c.args.centroids.now = c.cells_of.auto.cells ∙ c.requires.cell_len.0 in
-    record { points_in_bounds = (omega (arith, c.file-m.auto.order, c.requires.cell_len.1), omega (arith, c.requires.cell_len.3)); by_index = λ k lt. omega (arith, many, c.file-m.ensures.filed.order_lt k (omega (arith, many))) }
 
 pub returns : goal.returns
 returns c = let a = c.args in
-    prepared a.centroids.now a.lo a.radius a.cell.now c.cells_of.new.cells c.file-m.new.order c.file-m.new.first a.sorted.now c.arrange.new.sorted c.file-m.result
-    c.requires.cell_len.0 c.requires.cell_len.3 c.cells_of.ensures c.file-m.ensures.filed c.arrange.ensures
+    prepared a.centroids.now a.lo a.radius a.cell.now c.cells_of.new.cells c.file-buckets.new.order c.file-buckets.new.first a.sorted.now c.arrange.new.sorted c.file-buckets.result
+    c.requires.cell_len.0 c.requires.cell_len.3 c.cells_of.ensures c.file-buckets.ensures.filed c.arrange.ensures

@@ -9,4 +9,4 @@ use mathlib.Core.List.{[]}
 use mathlib.Core.Path.{◌≡◌}
 
 abbrev pub invariant-loop-t : goal.invariant-loop-t
-invariant-loop-t l = l.marks ≡ fold_to (λ i w. choose (in_set l.b.surfaces.now l.b.starts.now l.b.kept.now l.s i) (reached l.size l.depth (corners_of l.nodes (get_or l.b.tris.now i [])) l.middles.centroids.now w) w) l.initial.marks l.t
+invariant-loop-t l = let b = l.set.boundary in l.marks ≡ fold_to (λ i w. choose (in_set b.surfaces.now b.starts.now b.kept.now l.set.number i) (reached l.middles.size l.depth (corners_of l.nodes (get_or b.tris.now i [])) l.middles.centroids.now w) w) l.initial.marks l.t

@@ -1,40 +1,47 @@
 -- `run_answer::fronts::solve` meets its contract: the needed places are lent, and what comes back is laid over. Assumes nothing.
-use Rattle.run_answer.proofs.Prefix.{laid, scratched, take-one}
+use Rattle.run_answer.proofs.Prefix.{laid, scratched}
 use Rattle.run_answer.proofs.fronts.solve.Goals as goal
+use Rattle.run_answer.specs.Steps.{case_in}
 use Rattle.run_plain.specs.Calls.{steep_at}
 use Rattle.run_plain.specs.Formulas.{update_at, record_at}
-use Rattle.run_round.specs.Round.{case_at}
-use Prim.Native.Nat.{ℕ}
+use Rattle.run_plain.specs.Held.{core}
+use Rattle.run_round.specs.Round.{case_in as case_of_round}
+use borrow.Author.Rules.{rules}
 use lib.ListN.{take}
-use mathlib.Core.Bool.{Bool}
-use mathlib.Core.List.{List}
-use mathlib.Core.Path.{◌∙◌}
+use mathlib.Core.Path.{◌≡◌, ◌∙◌}
 use native.Mathlib.Numerals.{add-one}
 
 pub returns : goal.returns
 returns c =
     let a = c.args in
-    let p = c.requires.enough in
     let n = a.state.setting.elements in
-    let e = a.state.setting.entries in
+    let f = c.front.ensures in
+    let case : case_of_round a.state c.front.result ≡ case_in a.state (core a.elements a.fields) =
+    λ i. record { volumes = f.volumes i; passive = f.passive i; starts = f.starts i; near = f.near i; coef = f.coef i; fraction = a.state.setting.fraction; sharpen = (case_in a.state (core a.elements a.fields)).sharpen } in
     let steep = steep_at a.state.progress.stage in
-    let x = take n a.design.now in
-    let q = take n a.density.now in
+    let x = take n a.fields.design.now in
+    let q = take n a.fields.density.now in
     let u = a.energies.now in
-    let case = λ (starts : List ℕ) (sharpen : Bool). case_at (take n a.volumes.now) (take n a.passive.now) starts (take e a.near.now) (take e a.coef.now) a.state.setting.fraction sharpen in
-    let starts = take-one n a.starts.now in
-    let sharpen = c.sharpens-sharpen.ensures in
-    let new = c.solve.new in
-    let auto = c.solve.auto in
+    let p = c.requires.enough in
+    let new = laid n c.solve-entry.new.design _ a.fields.design.now (c.solve-entry.ensures.updated ∙ (λ i. (update_at (case i) steep x q u).design)) c.solve-entry.auto.design p.asks.design in
+    let last = laid n c.copy_from_slice.new.self q a.fields.last.now c.copy_from_slice.ensures.after c.copy_from_slice.auto.self p.last in
     record {
-      entry = c.solve.ensures.0 ∙ (λ i. record_at (case (starts i) (sharpen i)) steep x q u (add-one a.state.progress.rounds i));
-      design-is = laid n new.design _ a.design.now (c.solve.ensures.1 ∙ (λ i. (update_at (case (starts i) (sharpen i)) steep x q u).design)) auto.design p.design;
-      last-is = laid n c.copy.new.to q a.last.now c.copy.ensures c.copy.auto.to p.last;
+      entry = c.solve-entry.ensures.entry ∙ (λ i. record_at (case i) steep x q u (add-one a.state.progress.rounds i));
+      lists = λ i. record {
+        volumes = a.elements.volumes.now;
+        passive = a.elements.passive.now;
+        starts = a.elements.table.starts.now;
+        near = a.elements.table.near.now;
+        coef = a.elements.table.coef.now;
+        design = new i;
+        density = a.fields.density.now;
+        last = last i;
+      };
       work = record {
-        free = scratched n new.free a.free.now auto.free p.free;
-        slope = scratched n new.next a.slope.now auto.next p.slope;
-        spare = scratched n new.spare a.spare.now auto.spare p.spare;
-        dc = scratched n new.dc a.dc.now auto.dc p.dc;
-        dv = scratched n new.dv a.dv.now auto.dv p.dv;
+        free = scratched n _ a.work.free.now (search rules) p.free;
+        slope = scratched n _ a.work.slope.now (search rules) p.asks.spare;
+        spare = scratched n _ a.work.spare.now (search rules) p.spare;
+        dc = scratched n _ a.work.dc.now (search rules) p.dc;
+        dv = scratched n _ a.work.dv.now (search rules) p.dv;
       };
     }

@@ -2,15 +2,8 @@ use Rattle.std.proofs.Common.{◌+◌, ◌≡◌, ◌++◌, take, get_or, sym, a
 use Rattle.std.specs.Float.{nan}
 use Rattle.std.proofs.lemmas.List.{take_all}
 use Rattle.shape_report.specs.Report.{element_line, lines_from}
-use Rattle.shape_report.proofs.Laws.{then, retext, within, same-long, nothing, lines_more}
+use Rattle.shape_report.proofs.Laws.{then, retext, same-long, lines_more}
 use Rattle.shape_report.proofs.parts.element_lines.Goals as goal
-
-pub loop-e-init : goal.loop-e-init
-unfolding lines_from
-loop-e-init c = nothing _ _ c.requires
-
-pub element_line-next-requires : goal.element_line-next-requires
-element_line-next-requires c = within c.loop-e.invariant
 
 pub loop-e-preserved : goal.loop-e-preserved
 loop-e-preserved c =

@@ -1,17 +1,8 @@
 -- `round_line` meets its contract. Assumes nothing.
-use Rattle.shape_report.proofs.Laws.{then, within, same-long}
+use Rattle.shape_report.proofs.Laws.{then, same-long}
 use Rattle.shape_report.proofs.parts.round_line.Goals as goal
 use Rattle.shape_report.specs.Report.{ascii, round_line}
 use mathlib.Core.Path.{◌∙◌}
-
-pub words-h-requires : goal.words-h-requires
-words-h-requires c = within c.next_bits-g.ensures
-
-pub decimal-i-requires : goal.decimal-i-requires
-decimal-i-requires c = within c.words-h.ensures
-
-pub words-requires : goal.words-requires
-words-requires c = within c.decimal-i.ensures
 
 pub shape_of-out : goal.shape_of-out
 shape_of-out c = same-long c.words.ensures ∙ same-long c.decimal-i.ensures ∙ same-long c.words-h.ensures ∙ same-long c.next_bits-g.ensures ∙ same-long c.next_bits-f.ensures ∙ same-long c.next_bits-e.ensures ∙ same-long c.next_bits-d.ensures ∙ same-long c.next_bits-c.ensures ∙ same-long c.decimal-b.ensures ∙ same-long c.words-a.ensures

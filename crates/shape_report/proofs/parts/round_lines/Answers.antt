@@ -1,15 +1,8 @@
 use Rattle.std.proofs.Common.{sym, ap, arith}
 use Rattle.std.proofs.lemmas.List.{take_all}
 use Rattle.shape_report.specs.Report.{round_line, lines_from}
-use Rattle.shape_report.proofs.Laws.{then, retext, within, same-long, nothing, lines_more}
+use Rattle.shape_report.proofs.Laws.{then, retext, same-long, lines_more}
 use Rattle.shape_report.proofs.parts.round_lines.Goals as goal
-
-pub loop-r-init : goal.loop-r-init
-unfolding lines_from
-loop-r-init c = nothing _ _ c.requires
-
-pub round_line-next-requires : goal.round_line-next-requires
-round_line-next-requires c = within c.loop-r.invariant
 
 pub loop-r-preserved : goal.loop-r-preserved
 loop-r-preserved c =

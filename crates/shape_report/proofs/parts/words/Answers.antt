@@ -1,14 +1,8 @@
 use Rattle.std.proofs.Common.{take, sym, ap, ◌∙◌, add-one, arith}
 use Rattle.std.proofs.lemmas.List.{take_all}
 use lib.Seq.{take-suc}
-use Rattle.shape_report.proofs.Laws.{then, retext, within, same-long, nothing}
+use Rattle.shape_report.proofs.Laws.{then, retext, same-long}
 use Rattle.shape_report.proofs.parts.words.Goals as goal
-
-pub loop-b-init : goal.loop-b-init
-loop-b-init c = nothing _ _ c.requires
-
-pub byte-next-requires : goal.byte-next-requires
-byte-next-requires c = within c.loop-b.invariant
 
 pub loop-b-preserved : goal.loop-b-preserved
 loop-b-preserved c =

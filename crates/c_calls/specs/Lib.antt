@@ -1,0 +1,2 @@
+-- `Held` has what the lists that an opening holds contain.
+pub mod Held

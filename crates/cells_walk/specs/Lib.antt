@@ -1,0 +1,2 @@
+-- `Walks` has the laws of what a walk leaves.
+pub mod Walks

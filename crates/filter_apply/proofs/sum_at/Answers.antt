@@ -1,5 +1,0 @@
--- `filter_apply::sum_at` meets its contract. Assumes nothing.
-use Rattle.filter_apply.proofs.sum_at.Goals as goal
-
-pub returns : goal.returns
-returns c = rw (c.at.ensures, c.at-2.ensures, c.at-3.ensures, c.at-4.ensures)

@@ -1,0 +1,2 @@
+-- `Told` has what a call returns that turns its job back.
+pub mod Told

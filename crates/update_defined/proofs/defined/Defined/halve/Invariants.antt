@@ -1,0 +1,12 @@
+-- The definition goes on from where the loop stands as it would from the start.
+use Rattle.std.proofs.Common.{◌≡◌}
+use Rattle.update_defined.proofs.defined.Defined.halve.Given as goal
+use Rattle.update_defined.specs.Defined.{defined_of}
+use Rattle.update_rates.proofs.Loops.{halve_rest}
+use Rattle.update_rates.specs.Rates.{reckoned}
+
+abbrev pub invariant-loop-passes : goal.invariant-loop-passes
+invariant-loop-passes l = let g = defined_of l.self in record {
+  kept : l.kept ≡ reckoned g l.design;
+  goes_on : halve_rest g l.bracket l.design l.kept l.passes ≡ halve_rest g l.initial.bracket l.initial.design l.initial.kept l.fn.at.passes;
+}

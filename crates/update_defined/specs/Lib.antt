@@ -1,0 +1,2 @@
+-- `Defined` has what an update as it is defined is given.
+pub mod Defined

@@ -1,0 +1,2 @@
+-- `Ahead` has what a search with sharpening goes by, and what it keeps.
+pub mod Ahead
