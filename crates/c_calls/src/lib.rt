@@ -12,6 +12,7 @@ use run_plain::{Elements, Fields, Heard, OpenFields, State, Work};
 use topo::Goal;
 
 // What a run is opened on, as `run_plain::Job`, with the goal's numbers.
+// Stays beside that: the C interface has a number for the goal's sharpening, which is looked at before there is a goal.
 #[derive(Clone, Copy)]
 pub struct Job<'a> {
     pub volumes: &'a [f64],

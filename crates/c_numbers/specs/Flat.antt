@@ -8,8 +8,7 @@ use Rattle.topo.specs.Stops.{stop_number}
 use Rattle.refusal.specs.Refusals.{number_of}
 use Rattle.run_plain.specs.declared.Phase.{Phase}
 use Rattle.run_plain.specs.declared.Phase.TheVariants.{Idle, Solid, Round}
-use Rattle.run_plain.specs.declared.Said.{Said}
-use Rattle.run_plain.specs.declared.Said.TheVariants.{Gave, Failed, Halted}
+use Rattle.run_plain.specs.Said.{said_of}
 use Rattle.run_plain.specs.declared.Reply.{Reply}
 use Rattle.run_plain.specs.declared.Reply.TheVariants.{Refused, Solid as SolidPart, Round as RoundPart, Stop}
 use Rattle.run_plain.specs.declared.State.{State}
@@ -36,10 +35,6 @@ abbrev pub phase_number : Phase → ℕ
 phase_number Idle = 0
 phase_number Solid = 1
 phase_number Round = 2
-
--- 0: the solver gave energies. 1: it failed. Else: it stopped
-unfoldable pub said_of : ℕ → Said
-said_of n = choose (eqb n 0) Gave (choose (eqb n 1) Failed Halted)
 
 unfoldable pub goal_of : RunGoal → Goal
 goal_of g = record { fraction = g.fraction; radius = g.radius; sharpen = sharpening_of g.sharpen; max_iterations = g.max_iterations }

@@ -65,6 +65,7 @@ pub struct RunReturned {
 }
 
 // A round's record.
+// Stays beside `topo::Iteration`: the C interface lays it out so, whatever is done to that.
 #[repr(C)]
 #[derive(Clone, Copy)]
 pub struct RunRecord {
@@ -153,17 +154,12 @@ impl From<RunGoal> for Goal {
 impl From<RunHeard> for Heard {
     ghost from_gives = { λ h r. r ≡ Flat.heard_of h };
 
-    #[tactic(auto, unfolding(crate::specs::Flat::heard_of, crate::specs::Flat::said_of, lists::specs::Lists::choose))]
+    #[tactic(auto, unfolding(crate::specs::Flat::heard_of))]
     fn from(h: RunHeard) -> Heard
         ensures { result ≡ Flat.heard_of h }
     {
-        let said = match h.said {
-            0 => Said::Gave,
-            1 => Said::Failed,
-            _ => Said::Halted,
-        };
         Heard {
-            said,
+            said: Said::from(h.said),
             flag: h.flag,
             elapsed: h.elapsed,
             allowed: h.allowed,

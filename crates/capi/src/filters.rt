@@ -1,4 +1,5 @@
 // The filter's table and the two products with it.
+// Stays, in this file, lists one by one, a refusal as its number, and a name for each product: the C interface has them so.
 ghost use Rattle.std.specs.Prelude.{◌≡◌, length};
 ghost use Rattle.filter.specs.Build.{Built};
 ghost use Rattle.filter_table.specs.Table.{applied, backed};

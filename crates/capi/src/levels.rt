@@ -1,4 +1,5 @@
 // From a stiffness back to its level.
+// Stays, in this file, a name for each call: the C interface has them so.
 ghost use Rattle.std.specs.Prelude.{◌≡◌};
 ghost use Rattle.topo_moduli.specs.Moduli.{level_with, level_below, numbers_of};
 

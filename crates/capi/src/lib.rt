@@ -234,7 +234,7 @@ pub extern "C" fn sokdrib_mirror_image(mirror: Mirror, p: Vec3) -> Vec3
 pub extern "C" fn sokdrib_dist2_to_triangle(p: Vec3, a: Vec3, b: Vec3, c: Vec3) -> f64
     ensures { result ≡ dist2_to_triangle p a b c }
 {
-    faces::dist2_to_triangle(p, a, b, c)
+    faces::dist2_to_triangle(p, Triangle { a, b, c })
 }
 
 // The Young's modulus of a stiffness level for a material of modulus e0.
@@ -254,6 +254,7 @@ pub extern "C" fn sokdrib_level_of(x: f64) -> u16
 }
 
 // The root of each of xs, as far as both lists go; the rest of out stays as lent.
+// Stays beside the next: the C interface has a name for each, and a loop that takes the function would be no shorter.
 #[tactic(auto, using(lists::proofs::Filled::stored), unfolding(lists::specs::Lists::overwrite))]
 #[unsafe(no_mangle)]
 pub extern "C" fn sokdrib_sqrt_each(xs: &[f64], out: &mut [f64])
@@ -284,8 +285,7 @@ pub extern "C" fn sokdrib_tanh_each(zs: &[f64], out: &mut [f64])
 fn dist2_of(p: [f64; 3], t: [f64; 9]) -> f64
     ensures { result ≡ dist2_of p t }
 {
-    let t = Triangle::from(t);
-    faces::dist2_to_triangle(Vec3::from(p), t.a, t.b, t.c)
+    faces::dist2_to_triangle(Vec3::from(p), Triangle::from(t))
 }
 
 // The square of the distance from each point to the triangle at the same place, its corners in a row, as far as all three lists go;

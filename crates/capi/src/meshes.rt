@@ -1,4 +1,5 @@
 // Meshes of ten-node tetrahedra, and what the optimiser works on.
+// Stays, in this file, lists one by one and a refusal as its number: the C interface has them so.
 ghost use Rattle.std.specs.Prelude.{◌≡◌, [], ◌∷◌};
 ghost use Rattle.mesh.specs.Mesh as Mesh;
 ghost use Rattle.region_design.specs.Design.{Designed};

@@ -1,4 +1,5 @@
 // What must stay solid, and whether a part is the same on both sides of a plane.
+// Stays, in this file, lists one by one and a refusal as its number: the C interface has them so.
 ghost use Rattle.std.specs.Prelude.{◌≡◌};
 ghost use Rattle.refusal.specs.Refusals.{numbered};
 ghost use Rattle.region_passive.specs.Passive.{Marked};

@@ -1,5 +1,7 @@
 // The parts of a round. Where a call writes a list, those that it reads are refused with 1 where they differ in count, and one that it writes, or that is for its
 // own use, with 14 where it has fewer places; where that has more the rest stays as lent. A call that writes none refuses nothing (docs/API.md has each).
+// Stays, in this file, lists one by one, a refusal as its number, a flag or a rule's number beside its value, and a name for each call: the C interface has
+// them so.
 ghost use Rattle.std.specs.Prelude.{◌≡◌, not, ◌||◌, length, get_or, eqb, ltb};
 ghost use Rattle.std.specs.Float.{nan};
 ghost use Rattle.lists.specs.Lists.{sum_to, zero64};
@@ -16,10 +18,11 @@ ghost use Rattle.refusal.specs.Refusals.{number_of};
 ghost use Rattle.capi.specs.Numbers.{sharpness_of, rule_of, start_refused, kept_refused};
 
 use filter_table::Table;
-use oc_kept::Rule;
+use oc_kept::{Rule, Tested};
 use oc_project::Projection;
 use refusal::Refusal;
 
+// Stays beside oc_project's: the C interface lays it out so, whatever is done to that.
 #[repr(C)]
 #[derive(Clone, Copy)]
 pub struct Projected {
@@ -245,6 +248,7 @@ pub extern "C" fn sokdrib_volume_slope(
     0
 }
 
+// Stays a function: neither the number with its value nor Rule is of this crate, which a From would ask.
 #[tactic(auto, unfolding(lists::specs::Lists::choose))]
 pub fn rule_of(number: u32, value: f64) -> Rule
     ensures { result ≡ rule_of number value }
@@ -285,8 +289,7 @@ pub extern "C" fn sokdrib_kept(
     let volume = oc_kept::kept(
         rule,
         straight,
-        Table { starts, near, coef },
-        None,
+        Tested::Any(Table { starts, near, coef }),
         volumes,
         passive,
         y,

@@ -1,4 +1,5 @@
 // A run: opened, and then answered question by question.
+// Stays, in this file, lists one by one and a flag beside them: the C interface has them so.
 ghost use Rattle.c_numbers.specs.Flat.{goal_of, heard_of, OpenedAs, AnsweredAs};
 
 use c_calls::Job;

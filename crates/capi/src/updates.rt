@@ -1,4 +1,5 @@
 // The update of a design.
+// Stays, in this file, lists one by one and a rule's number beside its value: the C interface has them so.
 ghost use Rattle.std.specs.Prelude.{◌≡◌, not, ◌||◌, length, eqb, ltb};
 ghost use Rattle.update_design.specs.Design.{gains_of};
 ghost use Rattle.update_rates.specs.Rates.{updated};

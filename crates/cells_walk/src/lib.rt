@@ -23,7 +23,8 @@ pub trait Walker {
 }
 
 // Visits the columns of the block that are at x.
-// Stays, here and below, that a visit may be made and the block has a column: the first is the trait's own, and `Block::about` makes a block of any two cubes.
+// Stays, here and below, that a column may be visited and that the block has one: `Ready` is the trait's, and a Block with a ghost field would need an
+// `about` that may give none, which one of its two callers never meets.
 fn plane<W: Walker>(walker: &mut W, x: u64, b: Block)
     requires { W.Ready walker.old × (b.y0 ≤ b.y1) }
     ensures ready { W.Ready walker.new }

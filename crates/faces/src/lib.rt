@@ -9,9 +9,10 @@ ghost use Rattle.faces.specs.Corners as Corners;
 use geom::Vec3;
 
 #[tactic(auto, unfolding(crate::specs::Triangle::dist2_to_triangle, lists::specs::Lists::choose))]
-pub fn dist2_to_triangle(p: Vec3, a: Vec3, b: Vec3, c: Vec3) -> f64
-    ensures { result ≡ dist2_to_triangle p a b c }
+pub fn dist2_to_triangle(p: Vec3, t: Triangle) -> f64
+    ensures { result ≡ dist2_to_triangle p t.a t.b t.c }
 {
+    let Triangle { a, b, c } = t;
     let ab = b.sub(a);
     let ac = c.sub(a);
     let ap = p.sub(a);

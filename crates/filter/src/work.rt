@@ -14,6 +14,9 @@ pub struct Input<'a> {
 }
 
 // The lists of the table, which a build writes: where each row starts, and the elements and coefficients of the rows, one after the other.
+// Stays, here and below, lists side by side: each is lent as a list of its own across C.
+// Stays lent by `&mut`, here and below, so that contracts tell that the same lists are held: rows are written call after call, and `build` wipes what a call
+// left that was refused; by value a struct would be made anew from its parts for each.
 #[derive(Drop)]
 pub struct TableMut<'a> {
     pub starts: &'a mut [u32],

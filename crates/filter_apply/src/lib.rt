@@ -16,6 +16,7 @@ fn at(x: &[f64], j: usize) -> f64
 }
 
 // The products at four places of a row from k on, added to t. One test serves all four.
+// Stays two lists: a table has its rows' starts too, which are not looked at here.
 fn sum_four(near: &[u32], coef: &[f64], x: &[f64], k: usize, t: f64) -> f64
     requires { (k + 4 ≤ length near.now) × (k + 4 ≤ length coef.now) }
     ensures { let f = plus_product near.now coef.now x.now in result ≡ f (k + 3) (f (k + 2) (f (k + 1) (f k t))) }
@@ -45,7 +46,7 @@ fn row(table: Table, x: &[f64], e: usize) -> f64
     let Table { near, coef, .. } = table;
     let mut t = 0.0;
     let mut k = start;
-    // Stays: with `for i in 0..(end - start) / 4` a product took 3 to 4 per cent longer.
+    // Stays: with `for i in 0..(end - start) / 4` a product took 3 to 4 per cent longer, where it takes up to 0.99 of the Rust's time and may not be slower.
     while end - k >= 4 {
         t = sum_four(near, coef, x, k, t);
         k += 4;

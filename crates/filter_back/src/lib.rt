@@ -17,6 +17,7 @@ fn add_to(out: &mut [f64], j: usize, v: f64)
 }
 
 // Four places of a row from k on. One test serves all four: it is what the loop's time goes to.
+// Stays two lists: a table has its rows' starts too, which are not looked at here.
 #[tactic(auto, unfolding(filter_table::specs::Table::add_to))]
 fn add_four(near: &[u32], coef: &[f64], v: f64, k: usize, out: &mut [f64])
     requires { (k + 4 ≤ length near.now) × (k + 4 ≤ length coef.now) }

@@ -37,6 +37,7 @@ fn is_skew(m: Mirror, k: Mirror) -> bool
     ieee::abs(m.normal.dot(k.normal)) > 1e-9
 }
 
+// Stays beside `volumes_bad` of lent and its like: each is a line, and one function of them would be `any` itself.
 fn any_bad(planes: &[[f64; 6]]) -> bool
     ensures { result ≡ planes_bad planes.now }
 {

@@ -2,13 +2,14 @@
 ghost use Rattle.filter.specs.Steps.{Settles};
 ghost use Rattle.filter_look.specs.Ready.{Ready};
 
-use filter::grid::Extent;
+use geom::Bounds;
 
 // Made of the middles: their box; the radius, and a squared distance from which on nothing is nearer; the cubes, as wide as the radius; the elements
 // in the order of the cubes' buckets, where each bucket starts, and the middles in that order.
+// Stays a count beside `first`: the list is lent, and longer where all are in one bucket.
 #[derive(Clone, Copy)]
 pub struct Grid<'a> {
-    pub extent: Extent,
+    pub extent: Bounds,
     pub radius: f64,
     pub limit: f64,
     pub centroids: &'a [[f64; 3]],

@@ -8,6 +8,7 @@ use lib.ListN.{length, get_or}
 use lib.Ieee.{Float}
 use Rattle.lists.specs.Lists.{overwrite}
 use Rattle.lists.proofs.Laws.{length-overwrite, get_or-overwrite-below}
+use Rattle.geom.specs.declared.Bounds.{Bounds}
 use Rattle.geom.specs.declared.Vec3.{Vec3}
 use Rattle.cells.specs.Cells.{cell_of}
 use Rattle.cells.specs.Filing.{Filed}
@@ -15,7 +16,6 @@ use Rattle.cells.proofs.Fit.{cells_fit}
 use Rattle.filter.specs.Filter.{lowest, highest}
 use Rattle.filter.specs.Steps.{Settles}
 use Rattle.filter_look.specs.Ready.{Prepared, Ready}
-use Rattle.filter.specs.declared.grid.Extent.{Extent}
 
 pub prepared : (centroids : List (List Float)) (lo : Vec3) (radius : Float) (cell₀ cell : List (List ℕ)) (order first : List ℕ) (sorted₀ sorted : List (List Float)) (m : ℕ)
     → length cell₀ ≡ length centroids → length sorted₀ ≡ length centroids
@@ -34,7 +34,7 @@ prepared centroids lo radius cell₀ cell order first sorted₀ sorted m cn sn c
       arranged = λ k lt. ap (λ (l : List (List Float)). get_or l k []) se ∙ get_or-overwrite-below (λ k. get_or centroids (get_or order k 0) []) (length centroids) sorted₀ k [] (omega arith) (omega arith);
     }
 
-pub ready : (centroids : List (List Float)) (extent : Extent) (radius limit : Float) (cell : List (List ℕ)) (order first : List ℕ) (m : ℕ) (sorted : List (List Float))
+pub ready : (centroids : List (List Float)) (extent : Bounds) (radius limit : Float) (cell : List (List ℕ)) (order first : List ℕ) (m : ℕ) (sorted : List (List Float))
     → extent.lo ≡ lowest centroids → extent.hi ≡ highest centroids → Settles radius limit → length centroids < 65536 → Prepared centroids extent.lo radius cell order first m sorted
     → Ready extent radius limit centroids cell order first m sorted
 ready centroids extent radius limit cell order first m sorted el eh s few p =

@@ -5,7 +5,7 @@ ghost use Rattle.filter_look.specs.Ready.{Prepared};
 use geom::Vec3;
 
 // Files the elements and tells the number of buckets. `place` is to work in.
-// Stays a row of lists, since `fill_table` of filter_rows has them so.
+// Stays eight parameters: the lists are parts of a `Work` and may not be put into a second struct, as `fill_table` of filter_rows tells.
 pub fn file_all(
     centroids: &[[f64; 3]],
     lo: Vec3,

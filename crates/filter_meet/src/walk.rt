@@ -48,7 +48,7 @@ pub fn around(g: &Grid, q: Vec3, met: &mut Met)
     ensures kept { Kept met.old met.new }
     ensures took { Took (counts g.now.centroids.now g.now.radius q) (gained g.now.centroids.now g.now.radius q) met.old met.new }
 {
-    if g.extent.is_outside(g.radius, q) {
+    if filter::grid::is_outside(g.extent, g.radius, q) {
         return;
     }
     let cube = cells::cube_of(<[f64; 3]>::from(q), g.extent.lo, g.radius);

@@ -15,6 +15,7 @@ use filter_look::met::Met;
 use refusal::Refusal;
 
 // Row e, whose elements are those that it has met: its entries go from `at` on, and it tells where they end.
+// Stays, here and below, that the lists are long enough: they are lent, and there is no heap for a Vec.
 #[tactic(auto, using(crate::proofs::Room::has_room))]
 pub fn settle(
     e: usize,
@@ -41,6 +42,7 @@ pub fn settle(
 }
 
 // Row e, whose entries go from `at` on.
+// Stays grid, planes and volumes side by side, as filter_rows has them: a struct of the three would be made there for one loop, and taken apart here.
 pub fn build_row(
     g: &Grid,
     planes: Planes,

@@ -5,7 +5,6 @@ ghost use Rattle.filter.specs.Build.{Working};
 ghost use Rattle.filter.specs.Held.{working, SameTable, SameWork};
 ghost use Rattle.filter_rows.specs.Steps.{Filled, Sized, Roomy, Past};
 
-use filter::grid::Extent;
 use filter::work::{Input, TableMut, Work};
 use filter_group::Planes;
 use filter_look::grid::Grid;
@@ -13,7 +12,8 @@ use filter_look::met::Met;
 use geom::Mirror;
 use refusal::Refusal;
 
-// Stays a row of lists: the borrow checker does not cover parts of a lent `Work` that are put into a second one, of which a `Grid` borrows some.
+// Stays a row of lists: of a `Work` lent by `&mut` the borrow checker covers no parts in a second struct, of which a `Grid` borrows some; and by value it would
+// be made anew from its parts in `build`, which wipes what a call left that was refused.
 fn fill_table(
     input: Input,
     table: &mut TableMut,
@@ -31,7 +31,7 @@ fn fill_table(
     ensures same { SameTable table.old table.new }
     ensures filled { Filled input.entry.centroids.now input.entry.radius input.entry.planes.now input.entry.volumes.now table.old (refused result) table.new }
 {
-    let extent = Extent::of(input.centroids);
+    let extent = filter::grid::extent_of(input.centroids);
     let limit = filter::grid::limit_of(input.radius);
     let count = input.planes.len();
     let mut held = [Mirror::from([0.0; 6]); 3];

@@ -16,6 +16,7 @@ impl<'a> WellFormed<'a> {
     ghost use Rattle.filter_table.specs.Table.{Within, row_sum};
     ghost use Rattle.filter_table.specs.Lent.{seen_through};
 
+    // Stays two lists: a table has its rows' starts too, which are not looked at here.
     #[tactic(auto, using(crate::proofs::Laws::summing), unfolding(crate::specs::Table::product, crate::specs::Table::row_sum))]
     fn row(near: &[u32], coef: &[f64], x: &[f64], from: usize, to: usize) -> f64
         requires { Within near.now coef.now from to (length x.now) }

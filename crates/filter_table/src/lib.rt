@@ -12,6 +12,7 @@ pub use formed::WellFormed;
 use std::ops::Range;
 
 // Row e has the places from `starts[e]` up to `starts[e + 1]`; place k has the column `near[k]` and the number `coef[k]`.
+// Stays lists side by side, since each is lent as a list of its own across C, and beside `TableMut` of filter, which is written and not copied.
 #[derive(Clone, Copy)]
 pub struct Table<'a> {
     pub starts: &'a [u32],

@@ -1,9 +1,10 @@
-// Points, vectors and planes of symmetry: structs of f64 by value, each operation in 01's order.
+// Points, vectors, planes of symmetry and boxes: structs of f64 by value, each operation in 01's order.
 #![tactic(auto)]
 
 ghost use Rattle.std.specs.Prelude.{◌≡◌};
 ghost use Rattle.geom.specs.Vectors as Vectors;
 ghost use Rattle.geom.specs.Points as Points;
+ghost use Rattle.geom.specs.Boxes as Boxes;
 
 #[repr(C)]
 #[derive(Clone, Copy)]
@@ -203,5 +204,57 @@ impl From<Mirror> for [f64; 6] {
         let p = m.point;
         let n = m.normal;
         [p.x, p.y, p.z, n.x, n.y, n.z]
+    }
+}
+
+#[derive(Clone, Copy)]
+pub enum Axis {
+    X,
+    Y,
+    Z,
+}
+
+// A box along the axes, by its lower and its upper corner.
+#[derive(Clone, Copy)]
+pub struct Bounds {
+    pub lo: Vec3,
+    pub hi: Vec3,
+}
+
+impl Bounds {
+    // The box of a point and of further ones.
+    #[tactic(auto, unfolding(lists::specs::Lists::fold_to))]
+    pub fn of(first: Vec3, points: &[[f64; 3]]) -> Bounds
+        ensures lo { result.lo ≡ Boxes.lowest_from first points.now }
+        ensures hi { result.hi ≡ Boxes.highest_from first points.now }
+    {
+        let mut lo = first;
+        let mut hi = first;
+        for q in points {
+            let p = Vec3::from(*q);
+            lo = lo.min(p);
+            hi = hi.max(p);
+        }
+        Bounds { lo, hi }
+    }
+}
+
+// A box as it is stored: its two corners.
+impl From<[f64; 6]> for Bounds {
+    fn from(b: [f64; 6]) -> Bounds
+        ensures { result ≡ Boxes.bounds_at b }
+    {
+        Bounds {
+            lo: Vec3::new(b[0], b[1], b[2]),
+            hi: Vec3::new(b[3], b[4], b[5]),
+        }
+    }
+}
+
+impl From<Bounds> for [f64; 6] {
+    fn from(b: Bounds) -> [f64; 6]
+        ensures { result ≡ Boxes.stored b }
+    {
+        [b.lo.x, b.lo.y, b.lo.z, b.hi.x, b.hi.y, b.hi.z]
     }
 }

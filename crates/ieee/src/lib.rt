@@ -12,7 +12,7 @@ pub fn abs(x: f64) -> f64
     x.abs()
 }
 
-// Stays: the library's max may answer either of two that compare equal, as 0 and -0.
+// Stays: the library's max may answer either of two that compare equal, as 0 and -0, and 01 fixes which.
 pub fn max(x: f64, y: f64) -> f64
     ensures { result ≡ max_of x y }
 {

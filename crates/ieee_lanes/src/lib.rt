@@ -1,4 +1,5 @@
 // `ieee_tanh::tanh` of eight numbers, whose divisions are under way at a time. Each is worked out as it would be alone; small ones by half of the divisions.
+// Stays beside `ieee_tanh`, for speed: of one number at a time, each division would wait for the one before it.
 #![tactic(auto)]
 
 ghost use Rattle.std.specs.Prelude.{◌≡◌, ℕ, true, ◌≤◌, ◌<◌, get_or};

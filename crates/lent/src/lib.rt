@@ -40,7 +40,7 @@ fn volume_bad(v: f64) -> bool
     !((v > 0.0) & (v <= 1e20))
 }
 
-// Stays beside points_bad and depths_bad: each is a line, and one function of the three would be `any` itself.
+// Stays beside points_bad, depths_bad and `any_bad` of filter_group: each is a line, and one function of them would be `any` itself.
 pub fn volumes_bad(volumes: &[f64]) -> bool
     ensures { result ≡ volumes_bad volumes.now }
 {

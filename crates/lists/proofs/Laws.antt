@@ -8,6 +8,7 @@ use mathlib.Core.Logic.{⊎_elim}
 use native.Mathlib.Nat.{not-suc-le-zero, le_of_suc-le-suc, eq-or-lt_of_le}
 use native.Mathlib.Numerals.{add-one}
 use lib.ListN.{length, get_or, set, drop, replicate}
+use lib.Seq.{set_out}
 use lib.Ieee.{Float, binary64, add}
 use Rattle.lists.proofs.Bools.{never, or_left, or_right}
 use Rattle.lists.specs.Lists.{tabulate, overwrite, sum_to, fold_to, zero64, fold_over, sum_over, any_to, choose}
@@ -18,6 +19,11 @@ pub get_or_any : {A : Type 0} (l : List A) (k : ℕ) (d d' : A) → k < length l
 get_or_any [] k d d' h = absurd (not-suc-le-zero h)
 get_or_any (x ∷ l) zero d d' h = refl
 get_or_any (x ∷ l) (suc k) d d' h = get_or_any l k d d' (le_of_suc-le-suc h)
+
+-- ---- storing
+-- a store past the end changes nothing
+pub set_past : {A : Type 0} (l : List A) (i : ℕ) (v : A) → length l ≤ i → set l i v ≡ l
+set_past l i v h = set_out l i v h
 
 -- ---- tabulate
 pub length-tabulate : {A : Type 0} (f : ℕ → A) (n : ℕ) → length (tabulate f n) ≡ n

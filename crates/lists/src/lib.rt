@@ -1,7 +1,7 @@
-// Choices without a branch, and a sum, against `specs/Lists.antt`.
+// A choice, a sum and a store, against `specs/Lists.antt`.
 #![tactic(auto)]
 
-ghost use Rattle.std.specs.Prelude.{◌≡◌, length, get_or};
+ghost use Rattle.std.specs.Prelude.{◌≡◌, length, get_or, set};
 ghost use Rattle.std.specs.Float.{nan};
 ghost use Rattle.lists.specs.Lists.{sum_to, choose};
 
@@ -22,4 +22,14 @@ pub fn sum(a: &[f64]) -> f64
         t += *x;
     }
     t
+}
+
+// A store past the end changes nothing.
+#[tactic(auto, using(crate::proofs::Laws::set_past))]
+pub fn put<T: Copy>(list: &mut [T], at: usize, value: T)
+    ensures { list.new ≡ set list.old at value }
+{
+    if at < list.len() {
+        list[at] = value;
+    }
 }

@@ -5,7 +5,7 @@ ghost use Rattle.std.specs.Prelude.{◌≡◌};
 ghost use Rattle.mesh.specs.Mesh as Mesh;
 ghost use Rattle.mesh.specs.Steps as Steps;
 
-use geom::Vec3;
+use geom::{Bounds, Vec3};
 
 fn origin() -> Vec3
     ensures { result ≡ Mesh.origin }
@@ -164,19 +164,13 @@ pub fn centroid(nodes: &[[f64; 3]], tet: [u32; 10]) -> Vec3
 }
 
 // The size of the box that the nodes fit in, corner to corner.
-#[tactic(auto, unfolding(crate::specs::Mesh::extent_of, crate::specs::Mesh::lowest, crate::specs::Mesh::highest, lists::specs::Lists::choose, lists::specs::Lists::fold_to))]
+#[tactic(auto, unfolding(crate::specs::Mesh::extent_of, crate::specs::Mesh::lowest, crate::specs::Mesh::highest, lists::specs::Lists::choose))]
 pub fn extent(nodes: &[[f64; 3]]) -> f64
     ensures { result ≡ Mesh.extent_of nodes.now }
 {
     if nodes.is_empty() {
         return 0.0;
     }
-    let mut lo = Vec3::from(nodes[0]);
-    let mut hi = lo;
-    for node in nodes {
-        let p = Vec3::from(*node);
-        lo = lo.min(p);
-        hi = hi.max(p);
-    }
-    hi.sub(lo).len()
+    let b = Bounds::of(Vec3::from(nodes[0]), nodes);
+    b.hi.sub(b.lo).len()
 }

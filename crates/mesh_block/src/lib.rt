@@ -19,6 +19,7 @@ pub struct Counts {
 }
 
 // What `block` fills, and `edges` to work in.
+// Stays lists side by side: each is lent as a list of its own across C.
 #[derive(Drop)]
 pub struct Lists<'a> {
     pub nodes: &'a mut [[f64; 3]],
@@ -61,6 +62,7 @@ impl From<Result<Counts, Refusal>> for Made {
 }
 
 // The grid, where nothing refuses it.
+// Stays five lengths: a struct of them would be filled for this one call.
 #[tactic(auto, unfolding(crate::specs::Block::refusal_of, lists::specs::Lists::choose))]
 fn check(
     grid: Grid,

@@ -9,8 +9,8 @@ use lib.ListN.{get_or}
 use Rattle.lists.specs.Lists.{choose}
 use Rattle.mesh_lattice.specs.declared.Grid.{Grid}
 use Rattle.mesh_lattice.specs.declared.Corner.{Corner}
-use Rattle.mesh_lattice.specs.declared.Axis.{Axis}
-use Rattle.mesh_lattice.specs.declared.Axis.TheVariants.{X, Y, Z}
+use Rattle.geom.specs.declared.Axis.{Axis}
+use Rattle.geom.specs.declared.Axis.TheVariants.{X, Y, Z}
 use Rattle.mesh_lattice.specs.Lattice.{number_of, tets_in, paths, stepped, nth, first_of, way_of, four_of, Edge, edge, sides_between, sides_of}
 use Rattle.mesh_lattice.specs.Bounds.{Positive, Inside}
 use Rattle.mesh_lattice.proofs.Ways.{First, first_in, numbers_by, six, turned, turns}

@@ -6,7 +6,6 @@ use native.Mathlib.Omega.{arith}
 use native.Mathlib.Nat.{suc-add}
 use native.Mathlib.Numerals.{add-one}
 use lib.ListN.{length, set, drop, replicate}
-use lib.Seq.{set_out}
 use Prim.Native.Nat.{◌≤◌}
 use Rattle.lists.specs.Lists.{overwrite}
 use Rattle.lists.proofs.Laws.{overwrite-is, tabulate_throughout}
@@ -37,10 +36,6 @@ overwrite-twice f g n l =
 -- a list that was overwritten is as it would be overwritten
 pub overwrite-again : {A : Type 0} (f : ℕ → A) (n : ℕ) (l m : List A) → m ≡ overwrite f n l → m ≡ overwrite f n m
 overwrite-again f n l m e = e ∙ sym (overwrite-twice f f n l) ∙ ap (overwrite f n) (sym e)
-
--- a store past the end
-pub set_past : {A : Type 0} (l : List A) (i : ℕ) (v : A) → length l ≤ i → set l i v ≡ l
-set_past l i v h = set_out l i v h
 
 -- one value at each of the first n places
 pub front_filled : {A : Type 0} (z : A) (n : ℕ) (l : List A) → n ≤ length l → replicate n z ++ drop n l ≡ overwrite (λ k. z) n l

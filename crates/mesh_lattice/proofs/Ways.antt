@@ -17,8 +17,8 @@ use Rattle.mesh.specs.Mesh.{triple}
 use Rattle.mesh_lattice.specs.declared.Grid.{Grid}
 use Rattle.mesh_lattice.specs.declared.Corner.{Corner}
 use Rattle.mesh_lattice.specs.declared.Vertex.{Vertex}
-use Rattle.mesh_lattice.specs.declared.Axis.{Axis}
-use Rattle.mesh_lattice.specs.declared.Axis.TheVariants.{X, Y, Z}
+use Rattle.geom.specs.declared.Axis.{Axis}
+use Rattle.geom.specs.declared.Axis.TheVariants.{X, Y, Z}
 use Rattle.mesh_lattice.specs.Lattice.{number_of, corners_in, corner_of, tets_in, place_of, stepped, paths, nth, first_of, way_of, four_of, vertex_of, vertices_of, numbers_of, Edge, edge, sides_between, sides_of}
 use Rattle.mesh_lattice.specs.Bounds.{Positive, Small, Inside, InsideAll}
 use Rattle.mesh_lattice.specs.Filing.{index_in, strides}

@@ -13,8 +13,8 @@ use Rattle.mesh.specs.Mesh.{triple}
 use Rattle.mesh_lattice.specs.declared.Grid.{Grid}
 use Rattle.mesh_lattice.specs.declared.Corner.{Corner}
 use Rattle.mesh_lattice.specs.declared.Vertex.{Vertex}
-use Rattle.mesh_lattice.specs.declared.Axis.{Axis}
-use Rattle.mesh_lattice.specs.declared.Axis.TheVariants.{X, Y, Z}
+use Rattle.geom.specs.declared.Axis.{Axis}
+use Rattle.geom.specs.declared.Axis.TheVariants.{X, Y, Z}
 
 -- ---- the corners of the cells
 

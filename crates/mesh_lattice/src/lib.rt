@@ -1,13 +1,14 @@
 // A box divided into cells, each into six tetrahedra: the nodes and the tetrahedra of mesh.rs's `block`. All of it is internal: for `mesh_block`.
 #![tactic(auto)]
 
-ghost use Rattle.std.specs.Prelude.{◌≡◌, ◌+◌, ◌≤◌, ◌<◌, [], length, set, MatchOption};
+ghost use Rattle.std.specs.Prelude.{◌≡◌, ◌+◌, ◌≤◌, ◌<◌, [], length, MatchOption};
 ghost use Rattle.lists.specs.Lists.{overwrite};
 ghost use Rattle.mesh_lattice.specs.Lattice as Lattice;
 ghost use Rattle.mesh_lattice.specs.Bounds as Bounds;
 ghost use Rattle.mesh_lattice.specs.Filing as Filing;
 
-use geom::Vec3;
+use geom::Axis::{X, Y, Z};
+use geom::{Axis, Vec3};
 
 // The cells along each axis, and the box's size.
 #[derive(Clone, Copy)]
@@ -33,15 +34,6 @@ pub struct Vertex {
     pub place: Vec3,
 }
 
-#[derive(Clone, Copy)]
-pub enum Axis {
-    X,
-    Y,
-    Z,
-}
-
-use Axis::{X, Y, Z};
-
 // The six ways from a cell's first corner to its far one.
 const PATHS: [[Axis; 3]; 6] = [
     [X, Y, Z],
@@ -60,16 +52,6 @@ fn step(axis: Axis, c: Corner) -> Corner
         X => Corner { i: c.i + 1, ..c },
         Y => Corner { j: c.j + 1, ..c },
         Z => Corner { k: c.k + 1, ..c },
-    }
-}
-
-// A store past the end changes nothing.
-#[tactic(auto, using(crate::proofs::Lists::set_past))]
-pub fn put<T: Copy>(list: &mut [T], at: usize, value: T)
-    ensures { list.new ≡ set list.old at value }
-{
-    if at < list.len() {
-        list[at] = value;
     }
 }
 
@@ -214,6 +196,7 @@ impl SmallGrid {
     }
 
     // Which of the strides d is.
+    // Stays 7 for none: that is a slot of its own in the table, and an Option would be undone where it is made.
     fn direction(self, d: usize) -> usize
         ensures { result ≡ Filing.index_in d (Filing.strides self.grid) }
     {
@@ -280,6 +263,7 @@ impl SmallGrid {
 }
 
 // The nodes so far, the table of the edges met, and the next node's number.
+// Stays a count beside the nodes: the list is lent, and there is no heap for a Vec.
 #[derive(Drop)]
 struct Filer<'a> {
     nodes: &'a mut [[f64; 3]],
@@ -306,7 +290,7 @@ impl<'a> Filer<'a> {
         }
         let next = self.next;
         let p = middle(self.nodes[lo], self.nodes[hi]);
-        put(self.nodes, next, p.into());
+        lists::put(self.nodes, next, p.into());
         let number = next as u32;
         self.edges[slot] = number;
         self.next = next + 1;

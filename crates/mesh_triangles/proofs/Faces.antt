@@ -1,9 +1,12 @@
 -- The triangles of a tetrahedron: how many there are, and their nodes. Assumes nothing.
 use mathlib.Core.Path.{◌≡◌, refl, sym, ap, ◌∙◌}
-use mathlib.Core.List.{List, [], ◌++◌}
+use mathlib.Core.Bool.{Bool, true, false}
+use mathlib.Core.List.{List, [], ◌∷◌, ◌++◌}
 use Prim.Native.Nat.{ℕ, zero, suc, ◌+◌, ◌*◌, ◌≤◌}
 use native.Mathlib.Omega.{arith}
-use lib.ListN.{length, length-append}
+use lib.ListN.{length, length-append, get_or}
+use mir.Val.{bool_byte}
+use Rattle.std.specs.Option.{is_some}
 use Rattle.lists.specs.Lists.{fold_to}
 use Rattle.lists.proofs.Laws.{fold_to-more}
 use Rattle.mesh_lattice.specs.declared.Grid.{Grid}
@@ -22,6 +25,25 @@ face_count g a b c = one_of (side_of g (place_of g a) (place_of g b) (place_of g
 at_most_one : (s : Option ℕ) → one_of s ≤ 1
 at_most_one None = omega arith
 at_most_one (Some s) = omega arith
+
+pub byte_is_one : (s : Option ℕ) → bool_byte (is_some s) ≡ one_of s
+byte_is_one None = refl
+byte_is_one (Some s) = refl
+
+pub byte_most : (t : Bool) → bool_byte t ≤ 1
+byte_most true = omega arith
+byte_most false = omega arith
+
+-- six numbers, one by one
+pub six_are : (n : List ℕ) → length n ≡ 6 → get_or n 0 0 ∷ get_or n 1 0 ∷ get_or n 2 0 ∷ get_or n 3 0 ∷ get_or n 4 0 ∷ get_or n 5 0 ∷ [] ≡ n
+six_are [] h = absurd (omega arith)
+six_are (a ∷ []) h = absurd (omega arith)
+six_are (a ∷ b ∷ []) h = absurd (omega arith)
+six_are (a ∷ b ∷ c ∷ []) h = absurd (omega arith)
+six_are (a ∷ b ∷ c ∷ d ∷ []) h = absurd (omega arith)
+six_are (a ∷ b ∷ c ∷ d ∷ e ∷ []) h = absurd (omega arith)
+six_are (a ∷ b ∷ c ∷ d ∷ e ∷ f ∷ []) h = refl
+six_are (a ∷ b ∷ c ∷ d ∷ e ∷ f ∷ g ∷ l) h = absurd (omega arith)
 
 length-on : (s : Option ℕ) (n : List ℕ) → length (on_side s n) ≡ one_of s
 length-on None n = refl

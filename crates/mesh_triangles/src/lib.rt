@@ -6,7 +6,7 @@ ghost use Rattle.mesh_triangles.specs.Triangles as Triangles;
 ghost use Rattle.mesh_triangles.specs.Steps as Steps;
 
 use geom::Vec3;
-use mesh_lattice::{Grid, SmallGrid, Vertex, put};
+use mesh_lattice::{Grid, SmallGrid, Vertex};
 
 // The sides of the box that a point lies on.
 #[derive(Clone, Copy)]
@@ -35,6 +35,7 @@ fn touching(g: Grid, p: Vec3) -> Touch
 }
 
 // The first side of the box that three points share.
+// Stays a number: it goes into C's list of surfaces as it is.
 #[tactic(auto, unfolding(crate::specs::Steps::side_by, lists::specs::Lists::choose))]
 fn side(p: Touch, q: Touch, r: Touch) -> Option<u32>
     ensures { result ≡ Steps.side_by p q r }
@@ -72,14 +73,12 @@ fn sides_of(g: Grid, v: [Vertex; 4]) -> [Option<u32>; 4]
     [side(a, b, c), side(a, b, d), side(a, c, d), side(b, c, d)]
 }
 
+#[tactic(auto, using(crate::proofs::Faces::byte_is_one, crate::proofs::Faces::byte_most))]
 fn one(side: Option<u32>) -> usize
     ensures is { result ≡ Steps.one_of side }
     ensures most { result ≤ 1 }
 {
-    match side {
-        Some(_) => 1,
-        None => 0,
-    }
+    side.is_some() as usize
 }
 
 // How many triangles there are.
@@ -102,17 +101,18 @@ fn inward(a: Vec3, b: Vec3, c: Vec3, o: Vec3) -> bool
 }
 
 // The triangle's nodes, the other way round where `flip` is set.
-#[tactic(auto, unfolding(crate::specs::Steps::wound_by, lists::specs::Lists::choose))]
+#[tactic(auto, using(crate::proofs::Faces::six_are), unfolding(crate::specs::Steps::wound_by, lists::specs::Lists::choose))]
 fn wound(flip: bool, n: [u32; 6]) -> [u32; 6]
     ensures { result ≡ Steps.wound_by flip n }
 {
     if flip {
         return [n[0], n[2], n[1], n[5], n[4], n[3]];
     }
-    [n[0], n[1], n[2], n[3], n[4], n[5]]
+    n
 }
 
 // The triangles stored, and the next one's place.
+// Stays a count beside two lists: they are lent, each across C, and there is no heap for a Vec.
 #[derive(Drop)]
 struct Placer<'a> {
     surfaces: &'a mut [u32],
@@ -133,8 +133,8 @@ impl<'a> Placer<'a> {
         };
         let t = wound(inward(a, b, c, o), n);
         let at = self.next;
-        put(self.surfaces, at, s);
-        put(self.tris, at, t);
+        lists::put(self.surfaces, at, s);
+        lists::put(self.tris, at, t);
         self.next = at + 1;
     }
 

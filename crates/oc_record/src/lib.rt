@@ -70,6 +70,7 @@ pub fn least(design: &[f64], passive: &[bool]) -> f64
 }
 
 // The greatest: 0 where there is none.
+// Stays beside the least: one function of both would be told at each call which it is, and where to begin.
 #[tactic(auto, unfolding(lists::specs::Lists::fold_to, crate::specs::Record::greatest_of))]
 pub fn greatest(design: &[f64], passive: &[bool]) -> f64
     ensures { result ≡ greatest_of design.now passive.now }

@@ -23,6 +23,8 @@ fn sharpen(at: Option<Projection>, v: f64) -> Projected
     }
 }
 
+// Stays, that there is a density and a slope for each mark: they are lent to be written, the marks to be read, and a struct of all would be made at each call, for this
+// fact alone.
 #[tactic(auto, using(lists::proofs::Filled::stored, lists::proofs::Filled::unwritten), unfolding(lists::specs::Lists::overwrite, crate::specs::Seen::element_density, crate::specs::Seen::element_slope))]
 pub fn see(
     table: Table,

@@ -14,6 +14,7 @@ use region_nearest::stored::StoredTree;
 use region_tree::keyed::Keyed;
 
 // The lists to work in: one place a triangle, and in seen one a node.
+// Stays lists side by side: each is lent as a list of its own across C.
 #[derive(Drop)]
 pub struct Work<'a> {
     pub faces: &'a mut [[f64; 9]],
@@ -26,6 +27,7 @@ pub struct Work<'a> {
     pub seen: &'a mut [bool],
 }
 
+// Stays, here and below, nodes, triangles and plane side by side: C lends them so, and each function looks at all three.
 // Refuses by 3, 21, 9, 11 or 14; short tells whether a lent list has too few places.
 #[tactic(auto, unfolding(crate::specs::Asymmetry::refusal_of, lists::specs::Lists::choose))]
 fn check(nodes: &[[f64; 3]], tris: &[[u32; 6]], mirror: Mirror, short: bool) -> Result<(), Refusal>
@@ -67,7 +69,7 @@ fn apart(nodes: &[[f64; 3]], tris: &[[u32; 6]], mirror: Mirror, work: Work) -> f
         order,
         boxes,
     };
-    // Stays by a name: of a call at the very end, the borrow checker did not see the lists come back.
+    // Stays a `let`: of a call at the very end, the borrow checker did not see the lists come back.
     let far = region_farthest::far::farthest(nodes, mirror, tree, seen);
     far
 }
@@ -99,7 +101,7 @@ fn apart_front(nodes: &[[f64; 3]], tris: &[[u32; 6]], mirror: Mirror, work: Work
         boxes: &mut boxes[..n],
         seen: &mut seen[..nodes.len()],
     };
-    // Stays by a name: of a call at the very end, the borrow checker did not see the lists come back.
+    // Stays a `let`: of a call at the very end, the borrow checker did not see the lists come back.
     let far = apart(nodes, tris, mirror, needed);
     far
 }

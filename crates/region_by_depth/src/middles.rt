@@ -2,6 +2,7 @@
 ghost use Rattle.std.specs.Prelude.{◌≡◌};
 ghost use Rattle.region_cells.specs.Steps.{Ready};
 
+// Stays a count beside `first`: the list is lent, and longer where all are in one bucket.
 #[derive(Clone, Copy)]
 pub struct Middles<'a> {
     pub size: f64,

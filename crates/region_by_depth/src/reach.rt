@@ -13,6 +13,8 @@ use faces::Triangle;
 use region_by_nodes::boundary::KeptSet;
 
 // Marks what a triangle reaches.
+// Stays, here and below, that there are as many marks as middles: the marks are lent beside the middles to be written, and a struct of both would be made
+// for each call.
 fn reach(t: Triangle, depth: f64, middles: Middles, marks: &mut [bool])
     requires { length marks.old ≡ length middles.centroids.now }
     ensures { marks.new ≡ reached middles.entry.size depth t middles.entry.centroids.now marks.old }

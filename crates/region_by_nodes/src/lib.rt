@@ -1,7 +1,7 @@
 // Marks by nodes (region.rs, `passive`): the elements with a node that is held, loaded, or of a triangle of a kept set. Internal: lists are as long as needed.
 #![tactic(auto)]
 
-ghost use Rattle.std.specs.Prelude.{◌≡◌, true, false, [], ◌+◌, ◌<◌, length, get_or, set};
+ghost use Rattle.std.specs.Prelude.{◌≡◌, false, [], ◌+◌, ◌<◌, length, get_or};
 ghost use Rattle.lists.specs.Lists.{tabulate};
 ghost use Rattle.region_by_nodes.specs.Nodes.{of_set, by_nodes};
 ghost use Rattle.region_by_nodes.specs.Steps.{flagged, flagged_set, flagged_sets, any_flagged};
@@ -20,23 +20,13 @@ pub fn in_set(starts: &[u32], kept: &[u32], s: usize, surface: u32) -> bool
     kept[from..end].contains(&surface)
 }
 
-// Flags node n, where there is one.
-fn flag(n: u32, keep: &mut [bool])
-    ensures { keep.new ≡ set keep.old n true }
-{
-    let i = n as usize;
-    if i < keep.len() {
-        keep[i] = true;
-    }
-}
-
-// Flags the nodes of a list.
+// Flags the nodes of a list, where there are such.
 #[tactic(auto, unfolding(crate::specs::Steps::flagged, lists::specs::Lists::fold_to))]
 pub fn flag_all(numbers: &[u32], keep: &mut [bool])
     ensures { keep.new ≡ flagged numbers.now (length numbers.now) keep.old }
 {
     for n in numbers {
-        flag(*n, keep);
+        lists::put(keep, *n as usize, true);
     }
 }
 
@@ -71,8 +61,7 @@ fn flag_sets(b: Boundary, keep: &mut [bool])
 fn is_flagged(keep: &[bool], n: u32) -> bool
     ensures { result ≡ get_or keep.now n false }
 {
-    let i = n as usize;
-    if i < keep.len() { keep[i] } else { false }
+    keep.get(n as usize).copied().unwrap_or(false)
 }
 
 // Whether a tetrahedron has such a node.

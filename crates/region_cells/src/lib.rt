@@ -57,6 +57,8 @@ pub fn cell_size(nodes: &[[f64; 3]], set: KeptSet, depth: f64) -> f64
     ieee::max(depth, longest(nodes, set))
 }
 
+// Stays, here and below, beside `cells`, where a cube is counted from a corner: with the origin for it a zero would be subtracted, and that this changes
+// nothing is a law of floats that is longer than the functions.
 #[tactic(auto, unfolding(crate::specs::Depth::cell_number))]
 fn cell_number(v: f64, size: f64) -> u64
     ensures { result ≡ Depth.cell_number v size }
@@ -107,5 +109,5 @@ pub fn high(t: Triangle) -> Vec3
 pub fn is_near(t: Triangle, limit: f64, p: [f64; 3]) -> bool
     ensures { result ≡ Depth.at_most limit t (point p) }
 {
-    faces::dist2_to_triangle(Vec3::from(p), t.a, t.b, t.c) <= limit
+    faces::dist2_to_triangle(Vec3::from(p), t) <= limit
 }

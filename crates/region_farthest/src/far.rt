@@ -4,9 +4,8 @@ ghost use Rattle.region_nearest.specs.Nearest.{search_in, unfound, best_of};
 ghost use Rattle.region_tree.specs.Steps.{tree_in};
 ghost use Rattle.region_farthest.specs.Steps as Steps;
 
-use geom::{Mirror, Vec3};
+use geom::{Bounds, Mirror, Vec3};
 use region_nearest::stored::StoredTree;
-use region_tree::Bounds;
 use std::ops::ControlFlow;
 
 // The square of the distance to the nearest triangle, as the search gives it.

@@ -4,23 +4,22 @@ ghost use Rattle.lists.specs.Lists.{tabulate};
 ghost use Rattle.geom.specs.Points.{point};
 ghost use Rattle.faces.specs.Corners.{corners_of};
 ghost use Rattle.region_tree.specs.Tree.{keys_along, middle_of};
-ghost use Rattle.region_tree.specs.declared.Axis.TheVariants.{X, Y, Z};
+ghost use Rattle.geom.specs.declared.Axis.TheVariants.{X, Y, Z};
 ghost use Rattle.region_farthest.specs.Farthest as Spec;
 
 use faces::Triangle;
 use geom::Vec3;
 
 // Node n; one that is not there has no numbers.
-// Stays beside `mesh::node`, where it is the origin: the missing node is all that they say, and a parameter for it would be one more name.
+// Stays beside `mesh::node`, where a missing node is the origin: only that differs, and one function would be told it at each call.
+#[tactic(auto, using(lists::proofs::Laws::get_or_any))]
 pub fn node(nodes: &[[f64; 3]], n: u32) -> Vec3
     ensures { result ≡ point (get_or nodes.now n []) }
 {
-    let i = n as usize;
-    if i < nodes.len() {
-        return Vec3::from(nodes[i]);
+    match nodes.get(n as usize) {
+        Some(p) => Vec3::from(*p),
+        None => Vec3::from([f64::NAN; 3]),
     }
-    let none = 0.0 / 0.0;
-    Vec3::new(none, none, none)
 }
 
 // The coordinates of a triangle's corners, in a row.

@@ -11,9 +11,10 @@ use Rattle.lists.specs.Lists.{choose}
 use Rattle.lists.proofs.Laws.{choose-true, choose-false}
 use Rattle.geom.specs.declared.Vec3.{Vec3}
 use Rattle.region_median.proofs.Places.{either}
-use Rattle.region_tree.specs.declared.Bounds.{Bounds}
+use Rattle.geom.specs.declared.Bounds.{Bounds}
 use Rattle.region_tree.specs.Tree.{Tree, leaf, fork, box_of}
-use Rattle.region_tree.specs.Steps.{bounds_at, stored_tree, tree_in}
+use Rattle.geom.specs.Boxes.{bounds_at}
+use Rattle.region_tree.specs.Steps.{stored_tree, tree_in}
 use Rattle.region_tree.proofs.Stored.{stored_short, stored-fork, stored_fuel}
 use Rattle.std.specs.declared.ops.ControlFlow.TheVariants.{Continue, Break}
 use Rattle.region_nearest.specs.Nearest.{Search, gap_of, least_of, then_on, at_leaf, search_in}

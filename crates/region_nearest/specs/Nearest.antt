@@ -11,7 +11,7 @@ use Rattle.geom.specs.Vectors.{vec, less, greatest, len2}
 use Rattle.geom.specs.declared.Vec3.{Vec3}
 use Rattle.faces.specs.Triangle.{dist2_to_triangle}
 use Rattle.faces.specs.declared.Triangle.{Triangle}
-use Rattle.region_tree.specs.declared.Bounds.{Bounds}
+use Rattle.geom.specs.declared.Bounds.{Bounds}
 use Rattle.region_tree.specs.Tree.{Tree, leaf, fork, face_at, box_of}
 
 -- `gap`: the square of max(lo − p, p − hi, 0)

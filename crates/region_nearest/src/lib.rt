@@ -10,8 +10,7 @@ ghost use Rattle.region_nearest.specs.Steps.{Searchable};
 pub mod stored;
 
 use crate::stored::StoredTree;
-use geom::Vec3;
-use region_tree::Bounds;
+use geom::{Bounds, Vec3};
 use std::ops::ControlFlow;
 
 // The square of the gap between a point and a box; 0 inside.
@@ -31,13 +30,13 @@ fn least(faces: &[[f64; 9]], order: &[u32], p: Vec3, best: f64) -> f64
     let mut b = best;
     for i in order {
         let t = region_tree::face_at(faces, *i);
-        b = ieee::min(b, faces::dist2_to_triangle(p, t.a, t.b, t.c));
+        b = ieee::min(b, faces::dist2_to_triangle(p, t));
     }
     b
 }
 
-// Searches a tree, whose own box is g away, for less than the least square so far, and stops at one that is near enough. The point comes as three
-// numbers, which stay in registers from call to call.
+// Searches a tree, whose own box is g away, for less than the least square so far, and stops at one that is near enough.
+// Stays three numbers, which go from call to call in registers: a Vec3 goes in memory. What that costs was not measured.
 pub fn seek(
     tree: StoredTree,
     x: f64,

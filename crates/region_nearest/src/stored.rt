@@ -2,6 +2,7 @@
 ghost use Rattle.std.specs.Prelude.{◌≡◌, ◌-◌, ◌≤◌, length, take, drop};
 
 // The order of the triangles' numbers, and a box for each part of it at the part's middle place.
+// Stays lists side by side: each is lent across C, and a tree of boxes within boxes would need a heap.
 #[derive(Clone, Copy)]
 pub struct StoredTree<'a> {
     pub faces: &'a [[f64; 9]],

@@ -23,6 +23,7 @@ fn centroids_of(nodes: &[[f64; 3]], tets: &[[u32; 10]], centroids: &mut [[f64; 3
 }
 
 // Marks what the sets reach, each at its depth.
+// Stays that there are as many marks as middles: the marks are lent beside the middles to be written, and a struct of both would be made for each call.
 #[tactic(auto, unfolding(crate::specs::Steps::deepened, crate::specs::Steps::deepened_to, lists::specs::Lists::fold_to, lists::specs::Lists::choose))]
 fn by_depths(
     nodes: &[[f64; 3]],

@@ -1,12 +1,13 @@
 // What `region_passive::passive` is lent, and what it is refused for. No surface of its own.
 #![tactic(auto)]
 
-ghost use Rattle.std.specs.Prelude.{◌≡◌, get_or, length};
+ghost use Rattle.std.specs.Prelude.{◌≡◌, length};
 ghost use Rattle.refusal.specs.Refusals.{refused};
 ghost use Rattle.region_passive_checks.specs.Checks.{too_short, kept_short, refusal_by};
 
 use refusal::Refusal;
 
+// Stays, here and below, lists side by side: each is lent as a list of its own across C.
 // What the call reads: a mesh with the surfaces of its boundary triangles; the numbers of held and loaded nodes; kept sets of surfaces, a depth for each.
 #[derive(Clone, Copy)]
 pub struct Part<'a> {
@@ -60,16 +61,6 @@ fn too_short(part: Part, room: Room) -> bool
                             | ((room.order < n) | ((room.place < n) | (room.first <= n))))))))
 }
 
-// Where set s begins, or the one before it ends; 0 past the end.
-fn start_at(starts: &[u32], s: usize) -> usize
-    ensures { result ≡ get_or starts.now s 0 }
-{
-    if s < starts.len() {
-        return starts[s] as usize;
-    }
-    0
-}
-
 // Whether a set that is not empty ends past the end of `kept`, which has so many places.
 #[tactic(auto, unfolding(crate::specs::Checks::kept_short, lists::specs::Lists::any_to))]
 fn kept_short(starts: &[u32], kept: usize, sets: usize) -> bool
@@ -77,8 +68,8 @@ fn kept_short(starts: &[u32], kept: usize, sets: usize) -> bool
 {
     let mut found = false;
     for s in 0..sets {
-        let from = start_at(starts, s);
-        let end = start_at(starts, s + 1);
+        let from = starts.get(s).copied().unwrap_or(0) as usize;
+        let end = starts.get(s + 1).copied().unwrap_or(0) as usize;
         found |= (from < end) & (kept < end);
     }
     found

@@ -12,7 +12,8 @@ use Rattle.lists.specs.Lists.{choose}
 use Rattle.region_median.specs.Median.{rank_by, parted}
 use Rattle.region_median.proofs.Places.{parted-length, either}
 use Rattle.region_tree.specs.Tree.{leaf, fork, bounds_of, axis_of, keys_along, tree_of}
-use Rattle.region_tree.specs.Steps.{stored, bounds_at, stored_tree, tree_in}
+use Rattle.geom.specs.Boxes.{stored, bounds_at}
+use Rattle.region_tree.specs.Steps.{stored_tree, tree_in}
 
 -- ---- one level of the tree in the lists
 

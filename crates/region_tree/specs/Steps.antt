@@ -1,17 +1,8 @@
 -- How the code stores a tree, and what its build asks. No part of what a caller must believe. Definitions only.
-use Rattle.std.specs.Prelude.{ℕ, zero, suc, ◌/◌, ◌≤◌, ◌<◌, ◌≡◌, List, [], ◌∷◌, length, get_or, take, drop, leb, Float}
-use Rattle.std.specs.Float.{nan}
+use Rattle.std.specs.Prelude.{ℕ, zero, suc, ◌/◌, ◌≤◌, ◌<◌, ◌≡◌, List, [], length, get_or, take, drop, leb, Float}
 use Rattle.lists.specs.Lists.{choose}
-use Rattle.geom.specs.Vectors.{vec}
-use Rattle.region_tree.specs.declared.Bounds.{Bounds}
+use Rattle.geom.specs.Boxes.{bounds_at}
 use Rattle.region_tree.specs.Tree.{Tree, leaf, fork}
-
--- a box as it is stored
-abbrev pub stored : Bounds → List Float
-stored b = b.lo.x ∷ b.lo.y ∷ b.lo.z ∷ b.hi.x ∷ b.hi.y ∷ b.hi.z ∷ []
-
-abbrev pub bounds_at : List Float → Bounds
-bounds_at v = record { lo = vec (get_or v 0 nan) (get_or v 1 nan) (get_or v 2 nan); hi = vec (get_or v 3 nan) (get_or v 4 nan) (get_or v 5 nan) }
 
 -- the tree that stands in a part of the order and of the boxes: the part's own box at its middle place
 unfoldable pub stored_tree : ℕ → List ℕ → List (List Float) → Tree

@@ -5,13 +5,13 @@ use Rattle.std.specs.Float.Ieee.{le, neg, of_bits}
 use Rattle.lists.specs.Lists.{choose}
 use Rattle.ieee_bits.specs.Bits.{total_key}
 use Rattle.geom.specs.Vectors.{vec, plus, less, scaled, least, greatest}
+use Rattle.geom.specs.declared.Axis.{Axis}
+use Rattle.geom.specs.declared.Axis.TheVariants.{X, Y, Z}
+use Rattle.geom.specs.declared.Bounds.{Bounds}
 use Rattle.geom.specs.declared.Vec3.{Vec3}
 use Rattle.faces.specs.Corners.{corners_of}
 use Rattle.faces.specs.declared.Triangle.{Triangle}
 use Rattle.region_median.specs.Median.{rank_by, parted}
-use Rattle.region_tree.specs.declared.Bounds.{Bounds}
-use Rattle.region_tree.specs.declared.Axis.{Axis}
-use Rattle.region_tree.specs.declared.Axis.TheVariants.{X, Y, Z}
 
 -- ---- triangles
 

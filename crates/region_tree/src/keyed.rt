@@ -1,9 +1,9 @@
 // Triangles with the keys that they are ordered by.
 ghost use Rattle.std.specs.Prelude.{◌≡◌};
 ghost use Rattle.region_tree.specs.Tree.{keys_along};
-ghost use Rattle.region_tree.specs.declared.Axis.TheVariants.{X, Y, Z};
+ghost use Rattle.geom.specs.declared.Axis.TheVariants.{X, Y, Z};
 
-use crate::Axis;
+use geom::Axis;
 
 // Stays three lists of keys: each is lent as a list of its own across C.
 #[derive(Clone, Copy)]

@@ -10,51 +10,17 @@ pub mod keyed;
 
 use crate::keyed::Keyed;
 use faces::Triangle;
-use geom::Vec3;
-
-#[derive(Clone, Copy)]
-pub struct Bounds {
-    pub lo: Vec3,
-    pub hi: Vec3,
-}
-
-// A box as it is stored: its two corners.
-impl From<[f64; 6]> for Bounds {
-    fn from(b: [f64; 6]) -> Bounds
-        ensures { result ≡ Steps.bounds_at b }
-    {
-        Bounds {
-            lo: Vec3::new(b[0], b[1], b[2]),
-            hi: Vec3::new(b[3], b[4], b[5]),
-        }
-    }
-}
-
-impl From<Bounds> for [f64; 6] {
-    fn from(b: Bounds) -> [f64; 6]
-        ensures { result ≡ Steps.stored b }
-    {
-        [b.lo.x, b.lo.y, b.lo.z, b.hi.x, b.hi.y, b.hi.z]
-    }
-}
-
-#[derive(Clone, Copy)]
-pub enum Axis {
-    X,
-    Y,
-    Z,
-}
+use geom::{Axis, Bounds, Vec3};
 
 // Triangle i; one that is not there has no numbers.
-#[tactic(auto, unfolding(crate::specs::Tree::face_at, faces::specs::Corners::corners_of))]
+#[tactic(auto, using(lists::proofs::Laws::get_or_any), unfolding(crate::specs::Tree::face_at, faces::specs::Corners::corners_of))]
 pub fn face_at(faces: &[[f64; 9]], i: u32) -> Triangle
     ensures { result ≡ Tree.face_at faces.now i }
 {
-    let k = i as usize;
-    if k < faces.len() {
-        return Triangle::from(faces[k]);
+    match faces.get(i as usize) {
+        Some(face) => Triangle::from(*face),
+        None => Triangle::from([f64::NAN; 9]),
     }
-    Triangle::from([f64::NAN; 9])
 }
 
 #[tactic(auto, unfolding(crate::specs::Tree::widened))]

@@ -1,4 +1,5 @@
 // One case of each leaf: its arguments are read, then what the Rust gave.
+use faces::Triangle;
 use geom::Mirror;
 use oc_project::Projection;
 use replay_sample::read::{Recorded, point};
@@ -6,7 +7,7 @@ use replay_sample::words::{number, same, word};
 use std::io::Read;
 
 // A function of a number.
-// Stays in each contract that is given a function, here and beside: that it may be called is a fact of the function alone, and nothing holds it plainer.
+// Stays, here, below and in products, that the function may be called: it is a fact of the function alone, and nothing holds it plainer.
 pub fn of_one<T: Recorded, R: Read, F: Fn(f64) -> T>(sample: &mut R, f: F) -> bool
     requires { F.IsAlwaysCallable f }
 {
@@ -42,7 +43,10 @@ pub fn dist2_to_triangle(sample: &mut impl Read) -> bool {
     let a = point(sample);
     let b = point(sample);
     let c = point(sample);
-    same(faces::dist2_to_triangle(p, a, b, c), number(sample))
+    same(
+        faces::dist2_to_triangle(p, Triangle { a, b, c }),
+        number(sample),
+    )
 }
 
 pub fn project(sample: &mut impl Read) -> bool {

@@ -19,6 +19,8 @@ use std::io::Read;
 const SECTIONS: u64 = 100;
 
 // Works out one case of a function, and answers whether it is as recorded.
+// Stays by the function's number, here and in `name`: a sample names its functions so (docs/REPLAY.md), and an enum of them would be made of the numbers in
+// a third match and be matched in these two.
 fn case(sample: &mut impl Read, function: u64) -> bool {
     match function {
         1 => leaves::of_one(sample, ieee_root::sqrt),

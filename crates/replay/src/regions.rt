@@ -6,6 +6,7 @@ use replay_sample::read::{fill, point};
 use replay_sample::words::{number, same, word};
 use std::io::Read;
 
+// Stays a number and its two values: a sample has them so (docs/REPLAY.md), and they are compared once.
 fn is_balance(sample: &mut impl Read, outcome: Result<Option<Reaches>, Refusal>) -> bool {
     let kind = word(sample);
     let to = number(sample);

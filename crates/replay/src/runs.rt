@@ -24,17 +24,8 @@ struct Replayed {
     same: bool,
 }
 
-// Stays a function: every number of a sample says something, and the type is another crate's.
-fn said(n: u64) -> Said {
-    match n {
-        0 => Said::Gave,
-        1 => Said::Failed,
-        _ => Said::Halted,
-    }
-}
-
 fn heard(sample: &mut impl Read) -> Heard {
-    let said = said(word(sample));
+    let said = Said::from(u32::read(sample));
     let flag = bool::read(sample);
     let elapsed = word(sample);
     let allowed = word(sample);
@@ -47,6 +38,7 @@ fn heard(sample: &mut impl Read) -> Heard {
 }
 
 // A reply as recorded: 0 refused, with the number; 1 the solid part; 2 a round, with its number; 3 a stop, with its number.
+// Stays two numbers: a sample has them so (docs/REPLAY.md), and they are compared once.
 fn is_reply(reply: Reply, kind: u64, n: u64) -> bool {
     match reply {
         Reply::Refused(refusal) => (kind == 0) & (u64::from(u32::from(refusal)) == n),

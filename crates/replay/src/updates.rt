@@ -8,6 +8,7 @@ use std::io::Read;
 use topo::Ending;
 use update::Task;
 
+// Stays a function of this program: neither a flag with its value nor Rule is of this crate, which a From would ask.
 fn rule(sample: &mut impl Read) -> Rule {
     let sharpened = word(sample) != 0;
     let value = number(sample);
@@ -18,6 +19,7 @@ fn rule(sample: &mut impl Read) -> Rule {
 }
 
 // 0 met and 2 spent, with the kept volume; 1 cramped, with both rates.
+// Stays a number and its two values: a sample has them so (docs/REPLAY.md), and they are compared once.
 fn ended_so(ending: Ending, number: u64, first: f64, second: f64) -> bool {
     match ending {
         Ending::Met(kept) => (number == 0) & same(kept, first),

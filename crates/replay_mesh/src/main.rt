@@ -13,6 +13,8 @@ use std::io;
 use std::io::Read;
 
 // Works out one case of a function, and answers whether it is as recorded.
+// Stays by the function's number, here and in `name`: a sample names its functions so (docs/REPLAY.md), and an enum of them would be made of the numbers in
+// a third match and be matched in these two.
 fn case(sample: &mut impl Read, function: u64) -> bool {
     match function {
         23 => marks::passive(sample),

@@ -1,6 +1,7 @@
 // What stands in a sample: read into the whole of a lent list, or compared with one.
 use crate::words::{number, same, word};
 use geom::Vec3;
+use std::array;
 use std::io::Read;
 
 pub trait Recorded: Copy {
@@ -50,47 +51,9 @@ impl Recorded for bool {
     }
 }
 
-impl Recorded for [f64; 3] {
-    fn read<R: Read>(sample: &mut R) -> [f64; 3] {
-        let mut numbers = [0.0; 3];
-        fill(sample, &mut numbers);
-        numbers
-    }
-
-    fn is_next<R: Read>(self, sample: &mut R) -> bool {
-        are(sample, &self)
-    }
-}
-
-impl Recorded for [f64; 6] {
-    fn read<R: Read>(sample: &mut R) -> [f64; 6] {
-        let mut numbers = [0.0; 6];
-        fill(sample, &mut numbers);
-        numbers
-    }
-
-    fn is_next<R: Read>(self, sample: &mut R) -> bool {
-        are(sample, &self)
-    }
-}
-
-impl Recorded for [u32; 6] {
-    fn read<R: Read>(sample: &mut R) -> [u32; 6] {
-        let mut counts = [0; 6];
-        fill(sample, &mut counts);
-        counts
-    }
-
-    fn is_next<R: Read>(self, sample: &mut R) -> bool {
-        are(sample, &self)
-    }
-}
-
-impl Recorded for [u32; 10] {
-    fn read<R: Read>(sample: &mut R) -> [u32; 10] {
-        let mut counts = [0; 10];
-        fill(sample, &mut counts);
-        counts
+impl<T: Recorded, const N: usize> Recorded for [T; N] {
+    fn read<R: Read>(sample: &mut R) -> [T; N] {
+        array::from_fn(|_| T::read(sample))
     }
 
     fn is_next<R: Read>(self, sample: &mut R) -> bool {

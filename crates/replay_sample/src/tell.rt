@@ -37,6 +37,7 @@ pub fn total(out: &impl Print, t: Totals) -> io::Result<()> {
 }
 
 // How many of a section's cases differ: `case` works out the one that comes, and answers whether it is as recorded.
+// Stays that `case` may be called: it is a fact of the function alone, and nothing holds it plainer.
 pub fn differences<R: Read, F: Fn(&mut R) -> bool>(sample: &mut R, count: u64, case: F) -> u64
     requires { F.IsAlwaysCallable case }
 {

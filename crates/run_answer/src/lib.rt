@@ -5,10 +5,10 @@ mod fronts;
 
 ghost use Rattle.std.specs.Prelude.{◌≡◌, set, None};
 ghost use Rattle.run_plain.specs.Held.{core, working, SameFields, SameWork};
-ghost use Rattle.run_course.specs.Fit.{Fit};
 ghost use Rattle.run_answer.specs.Answers.{CoreAnswered};
 ghost use Rattle.run_answer.specs.Steps.{Asks, Enough, Begun, Followed};
 
+use run_course::Going;
 use run_plain::{Elements, Fields, Heard, Reply, Returned, State, Verdict, Work};
 use topo::{Iteration, Stop};
 
@@ -30,6 +30,7 @@ fn unrecorded(state: State, reply: Reply) -> Step
 }
 
 // The solid part is solved: round 1 is asked for.
+// Stays, here and below and in `fronts`, that the lists suffice: a struct of them would be lent by `&mut`, with clauses that they stay as long.
 fn begins(
     state: State,
     energies: &[f64],
@@ -49,19 +50,19 @@ fn begins(
 
 // A round is solved and recorded: the first stop that applies ends the run, or the next round is asked for.
 fn solves(
-    state: State,
+    going: Going,
     heard: Heard,
     energies: &[f64],
     elements: Elements,
     fields: &mut Fields,
     work: &mut Work,
 ) -> Step
-    requires enough { Enough state energies.now (core elements fields.old) (working work.old) }
-    requires fit { Fit state }
-    ensures followed { Followed state (record { heard = heard; energies = energies.now }) (core elements.entry fields.old) (working work.old) result (core elements.entry fields.new) (working work.new) }
+    requires { Enough going.state energies.now (core elements fields.old) (working work.old) }
+    ensures followed { Followed going.state (record { heard = heard; energies = energies.now }) (core elements.entry fields.old) (working work.old) result (core elements.entry fields.new) (working work.new) }
     ensures same_fields { SameFields fields.old fields.new }
     ensures same_work { SameWork work.old work.new }
 {
+    let state = going.state;
     let entry = fronts::solve(
         state,
         energies,
@@ -79,16 +80,16 @@ fn solves(
             dv: &mut *work.dv,
         },
     );
-    match run_course::course(state, heard, entry) {
+    match going.course(heard, entry) {
         Some(why) => Step {
             returned: Returned {
-                state: run_course::recorded_state(state, entry),
+                state: going.recorded_state(entry),
                 reply: Reply::Stop(why),
             },
             entry: Some(entry),
         },
         None => {
-            let next = run_course::onward_state(state, entry);
+            let next = going.onward_state(entry);
             fronts::ask(next, elements, fields, work.slope);
             Step {
                 returned: Returned {
@@ -121,7 +122,7 @@ pub fn answer_core(
         Verdict::Over(r) => unrecorded(state.ended(), Reply::Refused(r)),
         Verdict::Halts => unrecorded(state.ended(), Reply::Stop(Stop::Stopped)),
         Verdict::Begins => begins(state, energies, elements, fields, work),
-        Verdict::Solves => solves(state, heard, energies, elements, fields, work),
+        Verdict::Solves => solves(Going { state }, heard, energies, elements, fields, work),
     }
 }
 
@@ -129,7 +130,5 @@ pub fn answer_core(
 pub fn note(history: &mut [Iteration], at: usize, r: Iteration)
     ensures { history.new ≡ set history.old at r }
 {
-    if at < history.len() {
-        history[at] = r;
-    }
+    lists::put(history, at, r);
 }

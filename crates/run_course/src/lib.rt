@@ -55,34 +55,6 @@ fn steady_after(state: State, compliance: f64) -> usize
     }
 }
 
-// The first stop that applies after a round, in 01's order.
-// Stays, here and below and in run_answer, that the state's numbers fit: a state comes in with any numbers, and `run_verdict` tests them.
-#[tactic(auto, unfolding(run_plain::specs::Calls::stops_at, run_plain::specs::Plain::first_stop, lists::specs::Lists::choose))]
-pub fn course(state: State, heard: Heard, entry: Iteration) -> Option<Stop>
-    requires { Fit state }
-    ensures { result ≡ first_stop (stops_at state heard entry) }
-{
-    let sharp = sharpest(state.setting.sharpen, state.progress.stage);
-    let small = small(entry.change);
-    let steady = steady_after(state, entry.compliance);
-    if sharp & small {
-        return Some(Stop::Settled);
-    }
-    if sharp & (5 <= steady) {
-        return Some(Stop::LevelledOff);
-    }
-    if state.setting.max_iterations <= state.progress.rounds + 1 {
-        return Some(Stop::Limit);
-    }
-    if heard.allowed <= heard.elapsed {
-        return Some(Stop::Budget);
-    }
-    if heard.flag {
-        return Some(Stop::Stopped);
-    }
-    None
-}
-
 // The solid part is solved: round 1 is asked for.
 pub fn first_state(state: State, compliance: f64) -> State
     ensures { result ≡ first_state state compliance }
@@ -108,57 +80,93 @@ fn due(state: State, entry: Iteration) -> bool
     (20 <= state.progress.at_stage + 1) | (early & small)
 }
 
-// A round is recorded and the next asked for.
-#[tactic(auto, unfolding(run_plain::specs::Calls::stage_after, run_plain::specs::Calls::turns_after, lists::specs::Lists::choose))]
-pub fn onward_state(state: State, entry: Iteration) -> State
-    requires { Fit state }
-    ensures { result ≡ onward_state state entry }
-{
-    let sharp = sharpest(state.setting.sharpen, state.progress.stage);
-    let steady = steady_after(state, entry.compliance);
-    let due = due(state, entry);
-    let stage = if !sharp & due {
-        state.progress.stage + 1
-    } else {
-        state.progress.stage
-    };
-    let at_stage = if sharp | due {
-        0
-    } else {
-        state.progress.at_stage + 1
-    };
-    State {
-        phase: Phase::Round,
-        progress: Progress {
-            rounds: state.progress.rounds + 1,
-            stage,
-            at_stage,
-            steady,
-        },
-        compliances: Compliances {
-            last: entry.compliance,
-            ..state.compliances
-        },
-        ..state
-    }
+// A state that asks for a round and was tested.
+#[derive(Clone, Copy)]
+pub struct Going {
+    pub state: State,
+    pub ghost fit: { Fit state },
 }
 
-// A round is recorded and the run ends.
-pub fn recorded_state(state: State, entry: Iteration) -> State
-    requires { Fit state }
-    ensures { result ≡ recorded_state state entry }
-{
-    State {
-        phase: Phase::Idle,
-        progress: Progress {
-            rounds: state.progress.rounds + 1,
-            ..state.progress
-        },
-        compliances: Compliances {
-            last: entry.compliance,
-            ..state.compliances
-        },
-        ..state
+impl Going {
+    // The first stop that applies after a round, in 01's order.
+    #[tactic(auto, unfolding(run_plain::specs::Calls::stops_at, run_plain::specs::Plain::first_stop, lists::specs::Lists::choose))]
+    pub fn course(self, heard: Heard, entry: Iteration) -> Option<Stop>
+        ensures { result ≡ first_stop (stops_at self.state heard entry) }
+    {
+        let state = self.state;
+        let sharp = sharpest(state.setting.sharpen, state.progress.stage);
+        let small = small(entry.change);
+        let steady = steady_after(state, entry.compliance);
+        if sharp & small {
+            return Some(Stop::Settled);
+        }
+        if sharp & (5 <= steady) {
+            return Some(Stop::LevelledOff);
+        }
+        if state.setting.max_iterations <= state.progress.rounds + 1 {
+            return Some(Stop::Limit);
+        }
+        if heard.allowed <= heard.elapsed {
+            return Some(Stop::Budget);
+        }
+        if heard.flag {
+            return Some(Stop::Stopped);
+        }
+        None
+    }
+
+    // A round is recorded and the next asked for.
+    #[tactic(auto, unfolding(run_plain::specs::Calls::stage_after, run_plain::specs::Calls::turns_after, lists::specs::Lists::choose))]
+    pub fn onward_state(self, entry: Iteration) -> State
+        ensures { result ≡ onward_state self.state entry }
+    {
+        let state = self.state;
+        let sharp = sharpest(state.setting.sharpen, state.progress.stage);
+        let steady = steady_after(state, entry.compliance);
+        let due = due(state, entry);
+        let stage = if !sharp & due {
+            state.progress.stage + 1
+        } else {
+            state.progress.stage
+        };
+        let at_stage = if sharp | due {
+            0
+        } else {
+            state.progress.at_stage + 1
+        };
+        State {
+            phase: Phase::Round,
+            progress: Progress {
+                rounds: state.progress.rounds + 1,
+                stage,
+                at_stage,
+                steady,
+            },
+            compliances: Compliances {
+                last: entry.compliance,
+                ..state.compliances
+            },
+            ..state
+        }
+    }
+
+    // A round is recorded and the run ends.
+    pub fn recorded_state(self, entry: Iteration) -> State
+        ensures { result ≡ recorded_state self.state entry }
+    {
+        let state = self.state;
+        State {
+            phase: Phase::Idle,
+            progress: Progress {
+                rounds: state.progress.rounds + 1,
+                ..state.progress
+            },
+            compliances: Compliances {
+                last: entry.compliance,
+                ..state.compliances
+            },
+            ..state
+        }
     }
 }
 

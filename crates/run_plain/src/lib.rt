@@ -3,6 +3,7 @@
 
 ghost use Rattle.std.specs.Prelude.{◌≡◌, ◌<◌, ◌≤◌, suc, length, take};
 ghost use Rattle.run_plain.specs.Calls.{ended_of, fresh as fresh_state};
+ghost use Rattle.run_plain.specs.Said.{said_of};
 
 use filter_table::Table;
 use refusal::Refusal;
@@ -22,6 +23,22 @@ pub enum Said {
     Gave,
     Failed,
     Halted,
+}
+
+// By its number across C: any other than 0 and 1 says that the solver stopped.
+impl From<u32> for Said {
+    ghost from_gives = { λ n said. said ≡ said_of n };
+
+    #[tactic(auto, unfolding(crate::specs::Said::said_of, lists::specs::Lists::choose))]
+    fn from(number: u32) -> Said
+        ensures { result ≡ said_of number }
+    {
+        match number {
+            0 => Said::Gave,
+            1 => Said::Failed,
+            _ => Said::Halted,
+        }
+    }
 }
 
 // What a call returns: a refusal, the part that is asked for, or a stop.
@@ -150,6 +167,7 @@ impl State {
     }
 }
 
+// Stays, here and below, lists side by side with a count beside them: the C interface lends them so, and longer than needed.
 // What a run is opened on: the elements' volumes, middles and held marks, the planes of symmetry, the goal, and whether the run is to stop at once.
 #[derive(Clone, Copy)]
 pub struct Job<'a> {
@@ -162,6 +180,8 @@ pub struct Job<'a> {
 }
 
 // The lists of a run as an opening takes them: the design and the densities asked for are written, those of the last record's round only measured.
+// Stays beside `Fields`: the C interface lends an opening the last list to be read alone. Stays, of this struct and the two below, that a call gives back the lists that it
+// was lent (`SameOpenFields`, `SameFields`, `SameWork`): they are passed by `&mut`, as the caller goes on with them, and by value they would be taken apart and made again.
 #[derive(Drop)]
 pub struct OpenFields<'a> {
     pub design: &'a mut [f64],

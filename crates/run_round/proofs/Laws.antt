@@ -1,7 +1,7 @@
 -- A round's definitions by what each call on the way gives. Assumes nothing.
-use Rattle.std.specs.Prelude.{Some, None}
+use Rattle.std.specs.Prelude.{Option, Some, None}
 use mathlib.Core.Path.{◌≡◌, refl, ap, ◌∙◌}
-use mathlib.Core.Bool.{Bool}
+use mathlib.Core.Bool.{Bool, true, false}
 use mathlib.Core.List.{List}
 use Prim.Native.Nat.{ℕ}
 use lib.ListN.{length, get_or}
@@ -28,6 +28,12 @@ use Rattle.run_round.specs.Round.{plain_slopes}
 pub slopes_off : (starts near : List ℕ) (coef : List Float) (passive : List Bool) (x : List Float) → plain_slopes passive ≡ seen_slope None starts near coef passive x
 unfolding plain_slopes seen_slope slopes element_slope sharpened_slope
 slopes_off starts near coef passive x = refl
+
+-- what goes by the steepness, by whether there is one
+pub by-steep : {A : Type 0} (f : Option Float → A) (t : Bool) (b : Float) (at : Option Float) (r : A) → at ≡ choose t (Some b) None → r ≡ f at → r ≡ choose t (f (Some b)) (f None)
+unfolding choose
+by-steep f true b at r e g = g ∙ ap f e
+by-steep f false b at r e g = g ∙ ap f e
 
 -- the slopes of the work and of the volume
 pub record SlopesInto (sharpen : Bool) (beta : Float) (energies : List Float) (passive : List Bool) (starts near : List ℕ) (coef density x free dc dv : List Float) : Type 0 where

@@ -1,7 +1,14 @@
 -- What a round is given, as the formulas read it, and how long its lists are. Definitions only.
-use Rattle.std.specs.Prelude.{◌≡◌, Bool, false, List, length, get_or, Float}
+use Rattle.std.specs.Prelude.{◌≡◌, Bool, false, List, length, get_or, Option, None, Some, Float}
+use Rattle.std.specs.Float.{binary64}
+use Rattle.std.specs.Float.Ieee.{div, of_bits}
 use Rattle.lists.specs.Lists.{tabulate, choose, zero64}
 use Rattle.ieee.specs.Basic.{one64}
+use Rattle.ieee_root.specs.Sqrt.{sqrt_of}
+use Rattle.filter_table.specs.declared.Table.{Table}
+use Rattle.oc_kept.specs.declared.Rule.{Rule}
+use Rattle.oc_kept.specs.declared.Rule.TheVariants.{Straight, Sharpened}
+use Rattle.oc_slopes.specs.Lent.{volume_slope_through, straight_slope_through}
 use Rattle.topo.specs.Stages.{sharpens}
 use Rattle.run_plain.specs.declared.State.{State}
 use Rattle.run_plain.specs.declared.Elements.{Elements}
@@ -34,3 +41,16 @@ pub record LongWork (passive : List Bool) (w : Work) : Type 0 where
 -- without sharpening the slopes are 1, and 0 where held
 unfoldable pub plain_slopes : List Bool → List Float
 plain_slopes passive = tabulate (λ e. choose (get_or passive e false) zero64 one64) (length passive)
+
+-- by the steepness that the densities are sharpened at, if they are: the rule, the move, and how the volume goes with the design
+abbrev pub rule_by : Option Float → Float → Rule
+rule_by None solid = Straight solid
+rule_by (Some beta) solid = Sharpened beta
+
+abbrev pub move_by : Option Float → Float
+move_by None = of_bits binary64 0x3fc9_9999_9999_999a
+move_by (Some beta) = div binary64 (of_bits binary64 0x3fc9_9999_9999_999a) (sqrt_of binary64 beta)
+
+abbrev pub volume_by : Option Float → Table → List Float → List Float → List Float
+volume_by None t slope free = straight_slope_through t free
+volume_by (Some beta) t slope free = volume_slope_through t slope free

@@ -2,15 +2,12 @@
 #![tactic(auto)]
 
 ghost use Rattle.std.specs.Prelude.{◌≡◌, length, Some, None};
-ghost use Rattle.std.specs.Float.{binary64};
-ghost use Rattle.std.specs.Float.Ieee.{div, of_bits};
 ghost use Rattle.lists.specs.Lists.{choose};
-ghost use Rattle.ieee_root.specs.Sqrt.{sqrt_of};
+ghost use Rattle.topo.specs.Stages.{sharpens};
 ghost use Rattle.oc_seen.specs.Lent.{slope_through};
-ghost use Rattle.oc_slopes.specs.Lent.{volume_slope_through, straight_slope_through};
 ghost use Rattle.run_plain.specs.Formulas.{sharpness as sharpness_of, see, update_at, record_at};
 ghost use Rattle.run_plain.specs.Calls.{steep_at};
-ghost use Rattle.run_round.specs.Round.{case_in, Long, LongWork, plain_slopes};
+ghost use Rattle.run_round.specs.Round.{case_in, Long, LongWork, plain_slopes, rule_by, move_by, volume_by};
 
 use filter_table::Table;
 use oc_kept::Rule;
@@ -31,34 +28,37 @@ pub fn sharpness(stage: usize) -> f64
     }
 }
 
+// The steepness that the densities are sharpened at, if they are.
 #[tactic(auto, unfolding(lists::specs::Lists::choose))]
-fn seen_at(sharpen: bool, beta: f64) -> Option<f64>
-    ensures { result ≡ choose sharpen (Some beta) None }
+fn seen_at(state: State) -> Option<f64>
+    ensures { result ≡ choose (sharpens state.setting.sharpen) (Some (sharpness_of (steep_at state.progress.stage))) None }
 {
-    if sharpen { Some(beta) } else { None }
+    let beta = sharpness(state.progress.stage);
+    if state.setting.sharpen.sharpens() {
+        Some(beta)
+    } else {
+        None
+    }
 }
 
 // The rule by which an update reckons the volume kept.
-#[tactic(auto, unfolding(lists::specs::Lists::choose))]
-fn rule_at(sharpen: bool, beta: f64, solid: f64) -> Rule
-    ensures { result ≡ choose sharpen (Rule.Sharpened beta) (Rule.Straight solid) }
+fn rule_at(at: Option<f64>, solid: f64) -> Rule
+    ensures { result ≡ rule_by at solid }
 {
-    if sharpen {
-        Rule::Sharpened(beta)
-    } else {
-        Rule::Straight(solid)
+    match at {
+        Some(beta) => Rule::Sharpened(beta),
+        None => Rule::Straight(solid),
     }
 }
 
 // The most that an update moves a value.
-#[tactic(auto, unfolding(lists::specs::Lists::choose))]
-fn move_at(sharpen: bool, beta: f64) -> f64
-    ensures { result ≡ choose sharpen (div binary64 (of_bits binary64 0x3fc9_9999_9999_999a) (sqrt_of binary64 beta)) (of_bits binary64 0x3fc9_9999_9999_999a) }
+fn move_at(at: Option<f64>) -> f64
+    ensures { result ≡ move_by at }
 {
-    if sharpen {
-        return topo::MOVE / ieee_root::sqrt(beta);
+    match at {
+        Some(beta) => topo::MOVE / ieee_root::sqrt(beta),
+        None => topo::MOVE,
     }
-    topo::MOVE
 }
 
 // Without sharpening the slopes need no filter: 1, and 0 where held.
@@ -73,30 +73,21 @@ fn slopes_plain(passive: &[bool], slope: &mut [f64])
 }
 
 // How fast each density moves with its filtered value. `spare` is for the call's own use.
-#[tactic(auto, using(crate::proofs::Laws::slopes_off), unfolding(lists::specs::Lists::choose))]
-fn slopes(
-    sharpen: bool,
-    beta: f64,
-    elements: Elements,
-    x: &[f64],
-    spare: &mut [f64],
-    slope: &mut [f64],
-)
+#[tactic(auto, using(crate::proofs::Laws::slopes_off))]
+fn slopes(at: Option<f64>, elements: Elements, x: &[f64], spare: &mut [f64], slope: &mut [f64])
     requires { Long elements.passive.now spare.old × Long elements.passive.now slope.old }
-    ensures { slope.new ≡ slope_through (choose sharpen (Some beta) None) elements.entry.table elements.entry.passive.now x.now }
+    ensures { slope.new ≡ slope_through at elements.entry.table elements.entry.passive.now x.now }
 {
     let Elements { passive, table, .. } = elements;
-    if sharpen {
-        oc_seen::see(table, passive, x, Some(beta), spare, slope);
-    } else {
-        slopes_plain(passive, slope);
+    match at {
+        Some(_) => oc_seen::see(table, passive, x, at, spare, slope),
+        None => slopes_plain(passive, slope),
     }
 }
 
 // How the volume goes with the design. `spare` is for the call's own use.
-#[tactic(auto, unfolding(lists::specs::Lists::choose))]
 fn volume_slopes(
-    sharpen: bool,
+    at: Option<f64>,
     table: Table,
     slope: &[f64],
     free: &[f64],
@@ -104,12 +95,11 @@ fn volume_slopes(
     dv: &mut [f64],
 )
     requires { (length slope.now ≡ length free.now) × (length spare.old ≡ length free.now) × (length dv.old ≡ length free.now) }
-    ensures { dv.new ≡ choose sharpen (volume_slope_through table.entry slope.now free.now) (straight_slope_through table.entry free.now) }
+    ensures { dv.new ≡ volume_by at table.entry slope.now free.now }
 {
-    if sharpen {
-        oc_slopes::volume_slope(table, slope, free, spare, dv);
-    } else {
-        oc_slopes::straight_slope(table, free, dv);
+    match at {
+        Some(_) => oc_slopes::volume_slope(table, slope, free, spare, dv),
+        None => oc_slopes::straight_slope(table, free, dv),
     }
 }
 
@@ -119,9 +109,8 @@ pub fn ask(state: State, elements: Elements, design: &[f64], density: &mut [f64]
     requires { Long elements.passive.now density.old × Long elements.passive.now spare.old }
     ensures { density.new ≡ see (case_in state elements.entry) (steep_at state.progress.stage) design.now }
 {
-    let sharpen = state.setting.sharpen.sharpens();
-    let at = seen_at(sharpen, sharpness(state.progress.stage));
-    oc_seen::see(elements.table, elements.passive, design, at, density, spare);
+    let Elements { passive, table, .. } = elements;
+    oc_seen::see(table, passive, design, seen_at(state), density, spare);
 }
 
 // A round's update and its record under a number. `work.slope` holds each density's slope until the update leaves its design there, and `work.free` the free volumes until
@@ -152,25 +141,24 @@ pub fn solve(
         dc,
         dv,
     } = work;
-    let sharpen = state.setting.sharpen.sharpens();
-    let beta = sharpness(state.progress.stage);
+    let at = seen_at(state);
     let total = lists::sum(volumes);
     let solid = oc_start::solid_volume(volumes, passive);
     oc_start::free_volumes(volumes, passive, free);
     let grey = oc_record::grey(density, &free[..], lists::sum(&free[..]));
-    slopes(sharpen, beta, elements, &design[..], spare, slope);
+    slopes(at, elements, &design[..], spare, slope);
     oc_slopes::work_slope(table, passive, density, &slope[..], energies, spare, dc);
-    volume_slopes(sharpen, table, &slope[..], &free[..], spare, dv);
+    volume_slopes(at, table, &slope[..], &free[..], spare, dv);
     let u = update::update(
         Task {
             x: &design[..],
             dc: &dc[..],
             dv: &dv[..],
             passive,
-            m: move_at(sharpen, beta),
+            m: move_at(at),
             target: oc_goal::target(state.setting.fraction, total),
             tolerance: oc_goal::tolerance(total),
-            rule: rule_at(sharpen, beta, solid),
+            rule: rule_at(at, solid),
             table,
             volumes,
         },
@@ -185,7 +173,7 @@ pub fn solve(
         compliance: oc_record::compliance(energies),
         fraction: oc_record::fraction(volumes, density, total),
         change,
-        sharpness: beta,
+        sharpness: sharpness(state.progress.stage),
         grey,
         passes: u.passes,
     }

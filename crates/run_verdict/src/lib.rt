@@ -104,6 +104,8 @@ fn judged(solid: bool, c: Checks) -> Verdict
 }
 
 // What an answer is looked at for.
+// Stays, here and below and in run_answer, run and c_calls, what is heard beside the energies: the C interface has them as two, and a struct made at each of its callers
+// would be taken apart again here and in run_answer.
 #[tactic(auto, unfolding(run_plain::specs::Calls::checks_at))]
 fn checks(
     state: State,

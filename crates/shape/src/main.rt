@@ -1,7 +1,7 @@
 // Reads a job strip from standard input, runs its job, and writes what came of it to standard output. Nothing is written before the run has ended.
 #![tactic(auto)]
 
-ghost use Rattle.std.specs.Prelude.{◌≤◌, length};
+ghost use Rattle.std.specs.Prelude.{◌≡◌, false, ◌≤◌, length};
 ghost use Rattle.shape_report.specs.Report.{text_of};
 ghost use Rattle.shape_report.specs.Steps.{Wrote};
 ghost use Rattle.shape.specs.Shape.{outcome_from};
@@ -15,9 +15,10 @@ use strip::Job;
 use strip_lists::Lists;
 use strip_read::Lists as Patterns;
 use strip_stream::Reader;
-use topo::{Goal, Iteration};
+use topo::Iteration;
 
 // What was read of a strip: its reader, and how many of its bytes are kept.
+// Stays a count beside the list of the bytes: the list is the program's, and there is no heap for a Vec.
 #[derive(Clone, Copy)]
 struct Input {
     reader: Result<Reader, Refusal>,
@@ -47,11 +48,9 @@ fn read_all(from: &mut impl Read, kept: &mut [u8]) -> Input
         if got == 0 {
             break;
         }
-        reader = match reader {
-            Ok(reader) => reader.feed(&part[..got]),
-            Err(why) => Err(why),
-        };
-        at = keep(kept, at, &part[..got]);
+        let bytes = &part[..got];
+        reader = reader.and_then(|reader| reader.feed(bytes));
+        at = keep(kept, at, bytes);
     }
     Input { reader, at }
 }
@@ -72,18 +71,11 @@ fn load(kept: &[u8], passive: &mut [bool], lists: Lists) -> Result<(), Refusal> 
 }
 
 // Runs a job, and writes its text into `out`: the lists of the run are all zero at the start.
-fn run(
-    goal: Goal,
-    volumes: &[f64],
-    centroids: &[[f64; 3]],
-    weights: &[f64],
-    passive: &[bool],
-    mirrors: &[[f64; 6]],
-    out: &mut [u8],
-) -> usize
-    requires { length volumes.now ≤ 256 }
+fn run(job: run_plain::Job, weights: &[f64], out: &mut [u8]) -> usize
+    requires few { length job.volumes.now ≤ 256 }
+    requires goes_on { job.flag ≡ false }
     ensures upper_bound { result ≤ length out.old }
-    ensures wrote { Wrote (text_of (outcome_from goal volumes.now centroids.now weights.now passive.now mirrors.now)) 0 out.old out.new result }
+    ensures wrote { let j = job.entry in Wrote (text_of (outcome_from j.goal j.volumes.now j.centroids.now weights.now j.passive.now j.mirrors.now)) 0 out.old out.new result }
 {
     let none = Iteration {
         number: 0,
@@ -93,14 +85,6 @@ fn run(
         sharpness: 0.0,
         grey: 0.0,
         passes: 0,
-    };
-    let job = run_plain::Job {
-        volumes,
-        centroids,
-        passive,
-        mirrors,
-        goal,
-        flag: false,
     };
     let table = TableMut {
         starts: &mut [0; 257],
@@ -135,7 +119,7 @@ fn run(
         dv: &mut [0.0; 256],
     };
     let mut energies = [0.0; 256];
-    let n = volumes.len();
+    let n = job.volumes.len();
     shape_text::text(
         job,
         weights,
@@ -169,15 +153,15 @@ fn report(job: Job, kept: &[u8], out: &mut [u8]) -> usize
     // a job that is admitted has no more than these
     let n = job.elements.min(256);
     let k = job.mirrors.min(3);
-    run(
-        strip_job::goal(job),
-        &volumes[..n],
-        &centroids[..n],
-        &weights[..n],
-        &passive[..n],
-        &mirrors[..k],
-        out,
-    )
+    let asked = run_plain::Job {
+        volumes: &volumes[..n],
+        centroids: &centroids[..n],
+        passive: &passive[..n],
+        mirrors: &mirrors[..k],
+        goal: strip_job::goal(job),
+        flag: false,
+    };
+    run(asked, &weights[..n], out)
 }
 
 fn main(rt: HostRuntime) -> io::Result<()> {
@@ -186,10 +170,7 @@ fn main(rt: HostRuntime) -> io::Result<()> {
     // what a report of 64 rounds and 256 elements takes
     let mut out = [0; 14000];
     let input = read_all(&mut rt.stdin(), &mut kept);
-    let answer = match input.reader {
-        Ok(reader) => reader.finish(),
-        Err(why) => Err(why),
-    };
+    let answer = input.reader.and_then(|reader| reader.finish());
     let end = match strip_job::admitted(answer) {
         Ok(job) => report(job, &kept[..input.at], &mut out),
         Err(why) => shape_report::refused(&mut out, why),

@@ -42,6 +42,8 @@ fn solve(weights: &[f64], fields: &Fields, energies: &mut [f64])
 }
 
 // The solver's answer to the densities asked for.
+// Stays, here and below, a row of lists: a struct of those that are written would be lent in turn, with a clause more in each contract that it holds the
+// same ones.
 fn turn(
     state: State,
     weights: &[f64],

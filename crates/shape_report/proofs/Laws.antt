@@ -12,7 +12,8 @@ use borrow.Author.Tests.{lt-ltb, le-ltb, ltb-true, ltb-false}
 use Rattle.lists.specs.Lists.{choose}
 use Rattle.lists.proofs.Laws.{choose-true, choose-false}
 use Rattle.shape_report.specs.Report.{digit, hex, decimal_in, decimal, lines_from}
-use Rattle.shape_report.specs.Steps.{laid, Wrote}
+use Rattle.shape_report.specs.Steps.{laid, Wrote, Writes}
+use Rattle.shape_report.specs.declared.parts.Text.{Text}
 
 -- ---- laid
 pub length-laid : (text : List ℕ) (at : ℕ) (l : List ℕ) → length (laid text at l) ≡ length l
@@ -56,18 +57,22 @@ then {s} {t} {at} {a} {b} {c} {m} {n} u v =
 pub retext : {s t : List ℕ} {at : ℕ} {a b : List ℕ} {n : ℕ} → s ≡ t → Wrote s at a b n → Wrote t at a b n
 retext {s} {t} {at} {a} {b} {n} e u = subst (λ (x : List ℕ). Wrote x at a b n) e u
 
-pub within : {s : List ℕ} {at : ℕ} {a b : List ℕ} {n : ℕ} → Wrote s at a b n → n ≤ length b
-within {s} {at} {a} {b} {n} u =
-    let lb : length b ≡ length a = ap length u.list ∙ length-laid s at a in
-    let e : n ≡ min (at + length s) (length a) = u.end in
-    omega arith
+-- ---- the same of a list and a place held as one
+pub also : {s r : List ℕ} {t u v : Text} → Writes s t u → Writes r u v → Writes (s ++ r) t v
+also a b = record { wrote = then a.wrote b.wrote; same = b.same ∙ a.same }
 
-pub same-long : {s : List ℕ} {at : ℕ} {a b : List ℕ} {n : ℕ} → Wrote s at a b n → length b ≡ length a
-same-long {s} {at} {a} u = ap length u.list ∙ length-laid s at a
+pub reads : {s r : List ℕ} {t u : Text} → s ≡ r → Writes s t u → Writes r t u
+reads e a = record { wrote = retext e a.wrote; same = a.same }
 
-pub nothing : (at : ℕ) (l : List ℕ) → at ≤ length l → Wrote [] at l l at
+-- what is left in a lent list is what was held of it
+pub left : {s a b b' : List ℕ} {at n : ℕ} → Wrote s at a b n → b ≡ b' → Wrote s at a b' n
+left {s} {a} {b} {b'} {at} {n} w e = subst (λ (x : List ℕ). Wrote s at a x n) e w
+
+pub still : (t : Text) → Writes [] t t
 unfolding laid
-nothing at l h = record { list = refl; end = omega arith }
+still t =
+    let h : t.at ≤ length t.list.now = t.within in
+    record { wrote = record { list = refl; end = omega arith }; same = refl }
 
 -- ---- numbers
 pub hex-none : (k n : ℕ) → k ≡ 0 → [] ≡ hex k n

@@ -8,6 +8,7 @@ ghost use Rattle.refusal.specs.Refusals.{number_of};
 ghost use Rattle.shape_report.specs.Report.{text_of, refused as refused_text, ran as ran_text};
 ghost use Rattle.shape_report.specs.Steps.{Wrote};
 
+use parts::Text;
 use refusal::Refusal;
 use topo::{Iteration, Stop};
 
@@ -15,17 +16,27 @@ use topo::{Iteration, Stop};
 pub fn refused(out: &mut [u8], refusal: Refusal) -> usize
     ensures { Wrote (text_of (refused_text (number_of refusal))) 0 out.old out.new result }
 {
-    let a = parts::words(out, 0, b"refused ");
-    let b = parts::decimal(out, a, u64::from(u32::from(refusal)));
-    parts::words(out, b, b"\n")
+    let mut text = Text {
+        list: &mut *out,
+        at: 0,
+    };
+    text.words(b"refused ");
+    text.decimal(u64::from(u32::from(refusal)));
+    text.words(b"\n");
+    text.at
 }
 
 // A run that stopped: the solid part's work, its records, the stop, and the densities of the last record's round.
 pub fn ran(out: &mut [u8], solid: f64, records: &[Iteration], why: Stop, density: &[f64]) -> usize
     ensures { Wrote (text_of (ran_text solid records.now why density.now)) 0 out.old out.new result }
 {
-    let a = parts::solid_line(out, solid);
-    let b = parts::round_lines(out, a, records);
-    let c = parts::stop_line(out, b, why);
-    parts::element_lines(out, c, density)
+    let mut text = Text {
+        list: &mut *out,
+        at: 0,
+    };
+    text.solid_line(solid);
+    text.round_lines(records);
+    text.stop_line(why);
+    text.element_lines(density);
+    text.at
 }

@@ -16,7 +16,7 @@ fn energy(weight: f64, density: f64) -> f64
 fn place(list: &[f64], e: usize) -> f64
     ensures { result ≡ get_or list.now e nan }
 {
-    if e < list.len() { list[e] } else { f64::NAN }
+    list.get(e).copied().unwrap_or(f64::NAN)
 }
 
 // The energies of the elements at their densities, as many as `energies` has places.

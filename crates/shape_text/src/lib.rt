@@ -43,6 +43,7 @@ fn outcome(returned: Returned, fields: &Fields, history: &[Iteration], out: &mut
 }
 
 // A job, run from its lists as `shape_job::run` has them.
+// Stays as many parameters as that has and `out`: a struct of them would be taken apart again by the one call.
 pub fn text(
     job: Job,
     weights: &[f64],

@@ -10,7 +10,7 @@ ghost use Rattle.shift.specs.Grants.{begin_of, grant_of, begun, granted_by};
 use refusal::Refusal;
 
 // What goes from call to call: the jobs' numbers stand at their places, and zeros past them.
-// Stays lists beside a count, since the C interface lays it out so.
+// Stays three lists beside a count, since the C interface lays it out so.
 #[repr(C)]
 #[derive(Clone, Copy)]
 pub struct Shift {

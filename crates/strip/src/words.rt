@@ -117,7 +117,6 @@ fn field_at(j: usize) -> Place
 }
 
 // The place of word p in a strip of so many elements and planes.
-// Stays arithmetic: these are places in the strip, and no number's digits.
 #[tactic(auto, unfolding(crate::specs::Strip::place_at, lists::specs::Lists::choose))]
 pub fn place_at(elements: u32, mirrors: u32, p: usize) -> Place
     ensures { result ≡ place_at elements mirrors p }

@@ -10,6 +10,7 @@ use refusal::Refusal;
 use strip_read::Lists as Patterns;
 
 // The lists that a job is loaded into, the held elements apart: one place an element, and one a plane.
+// Stays lists side by side, since a run takes them so, and beside `strip_read::Lists`: that has one list more, and bit patterns.
 #[derive(Drop)]
 pub struct Lists<'a> {
     pub volumes: &'a mut [f64],

@@ -5,6 +5,7 @@ ghost use Rattle.strip.specs.Strip.{word_at, number_at, flag_at, point_at, plane
 
 use strip::words;
 
+// Stays, here and below, that the bytes reach: each function is told of other places, and a type of places that the bytes reach would be made at each call.
 #[tactic(auto, unfolding(strip::specs::Strip::word_at))]
 fn word_at(bytes: &[u8], p: usize) -> u32
     requires { 4 * p + 4 ≤ length bytes.now }
@@ -58,6 +59,7 @@ pub fn mirrors(bytes: &[u8], k: usize, to: &mut [[u64; 6]])
 }
 
 // The elements, the first at word `first`.
+// Stays a row of lists: `Lists` has the planes' too, which another function fills, and a struct of these four would be made for one call.
 #[tactic(auto, unfolding(lists::specs::Lists::overwrite))]
 pub fn elements(
     bytes: &[u8],

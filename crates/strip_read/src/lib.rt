@@ -11,6 +11,7 @@ use refusal::Refusal;
 use strip::Job;
 
 // The lists that a job is read into: one place an element, and one a plane.
+// Stays lists side by side: a run takes them so, and `strip_lists` fills each of those from one of these.
 #[derive(Drop)]
 pub struct Lists<'a> {
     pub volumes: &'a mut [u64],

@@ -9,6 +9,7 @@ use refusal::Refusal;
 use strip::{Job, words};
 
 // What is kept between two parts: every whole word stood at its place.
+// Stays counts beside lists: there is no heap for a Vec.
 #[derive(Clone, Copy)]
 pub struct Reader {
     // the whole words read

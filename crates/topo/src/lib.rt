@@ -132,7 +132,8 @@ impl From<Sharpening> for u32 {
 }
 
 // The choice that a strip, or a caller that knows no enums, gives by a number.
-// Stays a function and no TryFrom: whoever reads one refuses a number above 2 with other tests at once, so that no error of its own would be looked at.
+// Stays a function: a number above 2 is no sharpening, so a From would claim too much, and a TryFrom's error would be looked at by nobody: the strip and the run's
+// numbers are tested before, and a sample has none.
 #[tactic(auto, unfolding(crate::specs::Stages::sharpening_of, lists::specs::Lists::choose))]
 pub fn sharpening_of(number: u32) -> Sharpening
     ensures { result ≡ sharpening_of number }

@@ -2,6 +2,8 @@
 ghost use Rattle.std.specs.Prelude.{◌≡◌};
 ghost use Rattle.topo_moduli.specs.Moduli.{numbers_of};
 
+use refusal::Refusal;
+
 // Stays a number beside the level, since the C interface lays it out so.
 #[repr(C)]
 #[derive(Clone, Copy)]
@@ -21,7 +23,7 @@ impl From<Option<u16>> for LevelNumbers {
         match found {
             Some(level) => LevelNumbers { refused: 0, level },
             None => LevelNumbers {
-                refused: 29,
+                refused: u32::from(Refusal::NoLevel),
                 level: 0,
             },
         }

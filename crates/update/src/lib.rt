@@ -5,17 +5,17 @@
 mod task;
 
 ghost use Rattle.std.specs.Prelude.{◌≡◌, length, IfSome};
-ghost use Rattle.update_rates.specs.Rates.{first_rate, updated};
-ghost use Rattle.update_rates.specs.Steps.{given_of, standing};
+ghost use Rattle.update_rates.specs.Rates.{updated};
+ghost use Rattle.update_rates.specs.Steps.{standing};
+ghost use Rattle.update_rates.specs.Start.{given_by};
 ghost use Rattle.update.specs.Update.{Done};
 ghost use Rattle.update.specs.Task.{task_of};
 
-use filter_table::Table;
 use oc_kept::Rule;
 pub use task::Task;
 use topo::Ending;
 use update_design::Problem;
-use update_rates::Stand;
+use update_rates::{Stand, Start};
 
 #[derive(Clone, Copy)]
 pub struct Updated {
@@ -25,47 +25,30 @@ pub struct Updated {
 }
 
 // By few volumes, as the rule asks. None: the fast way does not serve.
-// Stays, here and below, that the lists are as long as the design: two are lent to be written, and a struct of them would need clauses as long that they stay
-// the same; a slope for each element is wanted by the update without sharpening alone.
-fn fast(
-    problem: Problem,
-    rule: Rule,
-    table: Table,
-    volumes: &[f64],
-    first: f64,
-    design: &mut [f64],
-    work: &mut [f64],
-) -> Option<Stand>
-    requires lengths { (length problem.dv.now ≡ length problem.x.now) × (length design.old ≡ length problem.x.now) × (length work.old ≡ length problem.x.now) }
-    requires first_value { first ≡ first_rate (given_of problem rule table volumes.now) }
-    ensures { IfSome result (λ s. standing s design.new ≡ updated (given_of problem.entry rule table.entry volumes.now)) }
+// Stays, here and below and in update_straight, that the lists are as long as the design: two are lent to be written, and a struct of them would need clauses as
+// long that they stay the same; a slope for each element is wanted by the update without sharpening alone, and a ghost field of `Problem` would ask it of the update
+// with sharpening too.
+fn fast(start: Start, design: &mut [f64], work: &mut [f64]) -> Option<Stand>
+    requires { (length start.problem.dv.now ≡ length start.problem.x.now) × (length design.old ≡ length start.problem.x.now) × (length work.old ≡ length start.problem.x.now) }
+    ensures { IfSome result (λ s. standing s design.new ≡ updated (given_by start.entry)) }
 {
-    match rule {
-        Rule::Straight(solid) => update_straight::straight(problem, solid, first, design, work),
-        Rule::Sharpened(beta) => {
-            update_sharpened::sharpened(problem, beta, table, volumes, first, design, work)
+    match start.rule {
+        Rule::Straight(solid) => {
+            update_straight::straight(start.problem, solid, start.first, design, work)
         }
+        Rule::Sharpened(_) => update_sharpened::sharpened(start, design, work),
     }
 }
 
 // The fast way, and else as it is defined.
-fn search(
-    problem: Problem,
-    rule: Rule,
-    table: Table,
-    volumes: &[f64],
-    first: f64,
-    design: &mut [f64],
-    work: &mut [f64],
-) -> Stand
-    requires lengths { (length problem.dv.now ≡ length problem.x.now) × (length design.old ≡ length problem.x.now) × (length work.old ≡ length problem.x.now) }
-    requires first_value { first ≡ first_rate (given_of problem rule table volumes.now) }
-    ensures { standing result design.new ≡ updated (given_of problem.entry rule table.entry volumes.now) }
+fn search(start: Start, design: &mut [f64], work: &mut [f64]) -> Stand
+    requires { (length start.problem.dv.now ≡ length start.problem.x.now) × (length design.old ≡ length start.problem.x.now) × (length work.old ≡ length start.problem.x.now) }
+    ensures { standing result design.new ≡ updated (given_by start.entry) }
 {
-    if let Some(stand) = fast(problem, rule, table, volumes, first, design, work) {
+    if let Some(stand) = fast(start, design, work) {
         return stand;
     }
-    update_defined::every(problem, rule, table, volumes, first, design, work)
+    update_defined::every(start, design, work)
 }
 
 // Internal: the lists have one length. `design` is left the updated design; `gain` and `work` are for the call's own use.
@@ -96,7 +79,14 @@ pub fn update(task: Task, design: &mut [f64], gain: &mut [f64], work: &mut [f64]
         target,
         tolerance,
     };
-    let stand = search(problem, rule, table, volumes, first, design, work);
+    let start = Start {
+        problem,
+        rule,
+        table,
+        volumes,
+        first,
+    };
+    let stand = search(start, design, work);
     Updated {
         ending: stand.ending(target, tolerance),
         passes: stand.passes,

@@ -5,6 +5,7 @@ use filter_table::Table;
 use oc_kept::Rule;
 
 // Lists with a place for each element, and how they are updated.
+// Stays lists side by side: the C interface lends them so.
 #[derive(Clone, Copy)]
 pub struct Task<'a> {
     // the design, and the slopes of the work and of the volume

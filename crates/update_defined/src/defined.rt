@@ -1,45 +1,38 @@
 // The stages of an update as it is defined.
-ghost use Rattle.std.specs.Prelude.{◌≡◌, length};
-ghost use Rattle.std.specs.Option.{ForSome};
-ghost use Rattle.filter_table.specs.Known.{IsOf};
+ghost use Rattle.std.specs.Prelude.{◌≡◌};
+ghost use Rattle.oc_kept.specs.Lent.{table_of};
 
-use filter_table::{Table, WellFormed};
-use oc_kept::Rule;
-use update_design::Problem;
-use update_rates::{Bracket, PASSES, Side, Stand};
+use oc_kept::Tested;
+use update_rates::{Bracket, PASSES, Side, Stand, Start};
 
-// What an update is given.
+// What an update is given, and its table as tested.
 #[derive(Clone, Copy)]
 pub struct Defined<'a> {
-    pub problem: Problem<'a>,
-    pub rule: Rule,
-    pub table: Table<'a>,
-    // the table, where its products may go without tests
-    pub formed: Option<WellFormed<'a>>,
-    pub volumes: &'a [f64],
-    pub ghost formed_is: { ForSome formed (λ w. IsOf w table (length problem.x.now) (length problem.x.now)) },
+    pub start: Start<'a>,
+    pub table: Tested<'a>,
+    pub ghost table_is: { table_of table ≡ start.table },
 }
 
 impl<'a> Defined<'a> {
     ghost use Rattle.std.specs.Prelude.{◌≡◌, true, ◌-◌, ◌≤◌, length};
     ghost use Rattle.lists.specs.Lists.{zero64};
-    ghost use Rattle.update_rates.specs.Rates.{reckoned, while_to, raises, raised, halves, halved, first_rate, updated};
+    ghost use Rattle.update_rates.specs.Rates.{reckoned, while_to, raises, raised, halves, halved, updated};
     ghost use Rattle.update_rates.specs.Steps.{standing};
     ghost use Rattle.update_defined.specs.Defined.{defined_of};
 
     // The volume that `design` keeps.
-    // Stays, here and below, that the lists are as long as the problem's: they are lent to be written, and are no part of what is defined.
+    // Stays, here and below, that the lists are as long as the problem's: they are lent to be written, and a struct of them would be lent in turn, with a clause that
+    // they stay the same.
     fn kept(self, design: &[f64], work: &mut [f64]) -> f64
-        requires { (length design.now ≡ length self.problem.x.now) × (length work.old ≡ length self.problem.x.now) }
+        requires { (length design.now ≡ length self.start.problem.x.now) × (length work.old ≡ length self.start.problem.x.now) }
         ensures { result ≡ reckoned (defined_of self.entry) design.now }
     {
         oc_kept::kept(
-            self.rule,
-            self.problem.dv,
+            self.start.rule,
+            self.start.problem.dv,
             self.table,
-            self.formed,
-            self.volumes,
-            self.problem.passive,
+            self.start.volumes,
+            self.start.problem.passive,
             design,
             work,
         )
@@ -47,29 +40,28 @@ impl<'a> Defined<'a> {
 
     // The same, which is `kept` where the design is the same as before.
     fn kept_again(self, same: bool, kept: f64, design: &[f64], work: &mut [f64]) -> f64
-        requires lengths { (length design.now ≡ length self.problem.x.now) × (length work.old ≡ length self.problem.x.now) }
+        requires lengths { (length design.now ≡ length self.start.problem.x.now) × (length work.old ≡ length self.start.problem.x.now) }
         requires kept_value { same ≡ true → kept ≡ reckoned (defined_of self) design.now }
         ensures { result ≡ reckoned (defined_of self.entry) design.now }
     {
         if same { kept } else { self.kept(design, work) }
     }
 
-    // The upper rate doubled until it keeps no more than the target, or until no less can be kept. `first` is the first rate, at which the design
-    // keeps `begun`.
-    fn raise(self, first: f64, begun: f64, design: &mut [f64], work: &mut [f64]) -> Stand
-        requires lengths { (length design.old ≡ length self.problem.x.now) × (length work.old ≡ length self.problem.x.now) }
+    // The upper rate doubled until it keeps no more than the target, or until no less can be kept. At the first rate the design keeps `begun`.
+    fn raise(self, begun: f64, design: &mut [f64], work: &mut [f64]) -> Stand
+        requires lengths { (length design.old ≡ length self.start.problem.x.now) × (length work.old ≡ length self.start.problem.x.now) }
         requires kept_value { begun ≡ reckoned (defined_of self) design.old }
-        ensures stand { let g = defined_of self.entry in standing result design.new ≡ while_to (raises g) (raised g) 199 (record { low = zero64; high = first; design = design.old; kept = begun; passes = 1 }) }
+        ensures stand { let g = defined_of self.entry in standing result design.new ≡ while_to (raises g) (raised g) 199 (record { low = zero64; high = self.entry.start.first; design = design.old; kept = begun; passes = 1 }) }
         ensures passes { result.passes ≤ 200 }
         ensures kept { result.kept ≡ reckoned (defined_of self.entry) design.new }
     {
         let mut bracket = Bracket {
             low: 0.0,
-            high: first,
+            high: self.start.first,
         };
         let mut kept = begun;
         for passes in 1..PASSES {
-            let more = Side::of(self.problem, kept).more;
+            let more = Side::of(self.start.problem, kept).more;
             if !more {
                 return Stand {
                     bracket,
@@ -78,7 +70,7 @@ impl<'a> Defined<'a> {
                 };
             }
             let rate = 2.0 * bracket.high;
-            self.problem.design_at(rate, work);
+            self.start.problem.design_at(rate, work);
             if update_design::same(work, design) {
                 return Stand {
                     bracket,
@@ -102,7 +94,7 @@ impl<'a> Defined<'a> {
 
     // The bracket halved until the volume is met, or until no rate lies between.
     fn halve(self, at: Stand, design: &mut [f64], work: &mut [f64]) -> Stand
-        requires lengths { (length design.old ≡ length self.problem.x.now) × (length work.old ≡ length self.problem.x.now) }
+        requires lengths { (length design.old ≡ length self.start.problem.x.now) × (length work.old ≡ length self.start.problem.x.now) }
         requires passes { at.passes ≤ 200 }
         requires kept_value { at.kept ≡ reckoned (defined_of self) design.old }
         ensures { let g = defined_of self.entry in standing result design.new ≡ while_to (halves g) (halved g) (200 - at.passes) (standing at design.old) }
@@ -110,7 +102,7 @@ impl<'a> Defined<'a> {
         let mut bracket = at.bracket;
         let mut kept = at.kept;
         for passes in at.passes..PASSES {
-            let off = Side::of(self.problem, kept).off;
+            let off = Side::of(self.start.problem, kept).off;
             if !off {
                 return Stand {
                     bracket,
@@ -125,9 +117,9 @@ impl<'a> Defined<'a> {
                     passes,
                 };
             };
-            let same = self.problem.design_again(rate, design);
+            let same = self.start.problem.design_again(rate, design);
             kept = self.kept_again(same, kept, design, work);
-            bracket = bracket.halved(rate, Side::of(self.problem, kept).more);
+            bracket = bracket.halved(rate, Side::of(self.start.problem, kept).more);
         }
         Stand {
             bracket,
@@ -136,15 +128,14 @@ impl<'a> Defined<'a> {
         }
     }
 
-    // The whole: `rate` is the first.
-    pub fn update(self, rate: f64, design: &mut [f64], work: &mut [f64]) -> Stand
-        requires lengths { (length design.old ≡ length self.problem.x.now) × (length work.old ≡ length self.problem.x.now) }
-        requires rate_value { rate ≡ first_rate (defined_of self) }
+    // The whole.
+    pub fn update(self, design: &mut [f64], work: &mut [f64]) -> Stand
+        requires { (length design.old ≡ length self.start.problem.x.now) × (length work.old ≡ length self.start.problem.x.now) }
         ensures { standing result design.new ≡ updated (defined_of self.entry) }
     {
-        self.problem.design_at(rate, design);
+        self.start.problem.design_at(self.start.first, design);
         let kept = self.kept(design, work);
-        let up = self.raise(rate, kept, design, work);
+        let up = self.raise(kept, design, work);
         self.halve(up, design, work)
     }
 }

@@ -2,6 +2,7 @@
 ghost use Rattle.std.specs.Prelude.{◌≡◌, length};
 
 // Lists with a place for each element, and what is asked of their update.
+// Stays lists side by side: the C interface lends them so.
 #[derive(Clone, Copy)]
 pub struct Problem<'a> {
     // the design, the gains, and the slopes of the volume, of which only an update without sharpening wants one for each element

@@ -7,13 +7,27 @@ ghost use Rattle.std.specs.Float.Ieee.{sub, lt};
 ghost use Rattle.lists.specs.Lists.{choose};
 ghost use Rattle.ieee.specs.Basic.{abs_of};
 ghost use Rattle.update_rates.specs.Ending.{ending_of};
-ghost use Rattle.update_rates.specs.Steps.{mean_of, is_closed};
+ghost use Rattle.update_rates.specs.Rates.{first_rate};
+ghost use Rattle.update_rates.specs.Steps.{mean_of, is_closed, given_of};
 
+use filter_table::Table;
+use oc_kept::Rule;
 use topo::Ending;
 use update_design::Problem;
 
 // The most times that one update reckons the volume it would keep.
 pub const PASSES: usize = 200;
+
+// What a search begins with: what the update is given, how volumes are reckoned, and the first rate.
+#[derive(Clone, Copy)]
+pub struct Start<'a> {
+    pub problem: Problem<'a>,
+    pub rule: Rule,
+    pub table: Table<'a>,
+    pub volumes: &'a [f64],
+    pub first: f64,
+    pub ghost first_is: { first ≡ first_rate (given_of problem rule table volumes.now) },
+}
 
 // Two rates between which another is looked for.
 #[derive(Clone, Copy)]

@@ -5,31 +5,33 @@
 mod sharp;
 
 ghost use Rattle.std.specs.Prelude.{◌≡◌, length, IfSome};
-ghost use Rattle.update_rates.specs.Rates.{first_rate, updated};
-ghost use Rattle.update_rates.specs.Steps.{given_of, standing};
+ghost use Rattle.update_rates.specs.Rates.{updated};
+ghost use Rattle.update_rates.specs.Steps.{standing};
+ghost use Rattle.update_rates.specs.Start.{given_by};
 
-use filter_table::Table;
 use oc_kept::Rule;
 use oc_project::Projection;
 use sharp::Sharp;
-use update_design::Problem;
-use update_rates::Stand;
+use update_rates::{Stand, Start};
 use update_two::Reckoning;
 
-// None: the table is not well formed, or the first rate keeps too much.
-pub fn sharpened(
-    problem: Problem,
-    beta: f64,
-    table: Table,
-    volumes: &[f64],
-    first: f64,
-    design: &mut [f64],
-    work: &mut [f64],
-) -> Option<Stand>
-    requires lengths { (length design.old ≡ length problem.x.now) × (length work.old ≡ length problem.x.now) }
-    requires first_value { first ≡ first_rate (given_of problem (Rule.Sharpened beta) table volumes.now) }
-    ensures { IfSome result (λ s. standing s design.new ≡ updated (given_of problem.entry (Rule.Sharpened beta) table.entry volumes.now)) }
+// None: there is no sharpening, the table is not well formed, or the first rate keeps too much.
+// Stays, here and in `Sharp`, that the lists are as long as the design: they are lent to be written, and a struct of them would be lent in turn, with a clause that
+// they stay the same.
+pub fn sharpened(start: Start, design: &mut [f64], work: &mut [f64]) -> Option<Stand>
+    requires { (length design.old ≡ length start.problem.x.now) × (length work.old ≡ length start.problem.x.now) }
+    ensures { IfSome result (λ s. standing s design.new ≡ updated (given_by start.entry)) }
 {
+    let Start {
+        problem,
+        rule,
+        table,
+        volumes,
+        first,
+    } = start;
+    let Rule::Sharpened(beta) = rule else {
+        return None;
+    };
     let n = problem.x.len();
     let formed = table.well_formed(n, n)?;
     let reckoning = Reckoning {
@@ -38,5 +40,10 @@ pub fn sharpened(
         volumes,
         passive: problem.passive,
     };
-    Sharp { problem, reckoning }.update(first, design, work)
+    let sharp = Sharp {
+        problem,
+        reckoning,
+        first,
+    };
+    sharp.update(design, work)
 }

@@ -1,17 +1,22 @@
 // The search for the rate, by two volumes at a time.
 ghost use Rattle.std.specs.Prelude.{◌≡◌, length};
+ghost use Rattle.oc_kept.specs.declared.Rule.TheVariants.{Sharpened};
+ghost use Rattle.update_rates.specs.Rates.{first_rate};
+ghost use Rattle.update_rates.specs.Steps.{given_of};
 
 use update_design::Problem;
 use update_rates::{Bracket, PASSES, Side, Stand};
 use update_two::{Reckoning, Two};
 
-// What an update is given, and what its volumes are reckoned by.
+// What an update is given, what its volumes are reckoned by, and the first rate.
 #[derive(Clone, Copy)]
 pub struct Sharp<'a> {
     pub problem: Problem<'a>,
     pub reckoning: Reckoning<'a>,
+    pub first: f64,
     pub ghost passive_is: { reckoning.passive.now ≡ problem.passive.now },
     pub ghost columns_is: { reckoning.formed.columns ≡ length problem.x.now },
+    pub ghost first_is: { first ≡ first_rate (given_of problem (Sharpened reckoning.at.beta) reckoning.formed.table reckoning.volumes.now) },
 }
 
 // The volume that the rate tried keeps; the rate whose volume is reckoned ahead; and the volumes of the two designs at hand, of which the
@@ -45,7 +50,7 @@ fn likely(bracket: Bracket, ends: Ends, middle: f64, target: f64) -> f64 {
 impl<'a> Sharp<'a> {
     ghost use Rattle.std.specs.Prelude.{◌≡◌, ◌-◌, length, IfSome};
     ghost use Rattle.lists.specs.Lists.{zero64};
-    ghost use Rattle.update_rates.specs.Rates.{trial, reckoned, while_to, halves, halved, first_rate, updated};
+    ghost use Rattle.update_rates.specs.Rates.{trial, reckoned, while_to, halves, halved, updated};
     ghost use Rattle.update_rates.specs.Steps.{stand_at, standing};
     ghost use Rattle.update_sharpened.specs.Ahead.{sharp_of, IsAhead};
 
@@ -88,22 +93,22 @@ impl<'a> Sharp<'a> {
     }
 
     // Where halving ends, and the last rate that it tried.
-    fn halve(self, first: f64, begun: Ahead, design: &mut [f64], work: &mut [f64]) -> (Stand, f64)
+    fn halve(self, begun: Ahead, design: &mut [f64], work: &mut [f64]) -> (Stand, f64)
         requires lengths { (length design.old ≡ length self.problem.x.now) × (length work.old ≡ length self.problem.x.now) }
-        requires kept { begun.kept ≡ reckoned (sharp_of self) (trial (sharp_of self) first) }
+        requires kept { begun.kept ≡ reckoned (sharp_of self) (trial (sharp_of self) self.first) }
         requires ahead { IsAhead (sharp_of self) begun design.old work.old }
-        ensures stand { let g = sharp_of self.entry in stand_at g result.0.bracket.low result.0.bracket.high result.1 result.0.passes ≡ while_to (halves g) (halved g) (200 - 1) (stand_at g zero64 first first 1) }
+        ensures stand { let g = sharp_of self.entry in stand_at g result.0.bracket.low result.0.bracket.high result.1 result.0.passes ≡ while_to (halves g) (halved g) (200 - 1) (stand_at g zero64 self.entry.first self.entry.first 1) }
         ensures kept { let g = sharp_of self.entry in result.0.kept ≡ reckoned g (trial g result.1) }
     {
         let mut bracket = Bracket {
             low: 0.0,
-            high: first,
+            high: self.first,
         };
         let mut ends = Ends {
             most: 1.0 / 0.0,
             least: begun.kept,
         };
-        let mut rate = first;
+        let mut rate = self.first;
         let mut at = begun;
         let mut off = Side::of(self.problem, begun.kept).off;
         for passes in 1..PASSES {
@@ -148,14 +153,13 @@ impl<'a> Sharp<'a> {
         )
     }
 
-    // The whole: `first` is the first rate. None: it keeps too much.
-    pub fn update(self, first: f64, design: &mut [f64], work: &mut [f64]) -> Option<Stand>
-        requires lengths { (length design.old ≡ length self.problem.x.now) × (length work.old ≡ length self.problem.x.now) }
-        requires first_value { first ≡ first_rate (sharp_of self) }
+    // The whole. None: the first rate keeps too much.
+    pub fn update(self, design: &mut [f64], work: &mut [f64]) -> Option<Stand>
+        requires { (length design.old ≡ length self.problem.x.now) × (length work.old ≡ length self.problem.x.now) }
         ensures { IfSome result (λ s. standing s design.new ≡ updated (sharp_of self.entry)) }
     {
-        let next = 0.5 * first;
-        self.problem.design_at(first, design);
+        let next = 0.5 * self.first;
+        self.problem.design_at(self.first, design);
         self.problem.design_at(next, work);
         let keep = self.reckoning.kept(design, work);
         if Side::of(self.problem, keep.a).more {
@@ -166,7 +170,7 @@ impl<'a> Sharp<'a> {
             next,
             keep,
         };
-        let (stand, rate) = self.halve(first, begun, design, work);
+        let (stand, rate) = self.halve(begun, design, work);
         self.problem.design_at(rate, design);
         Some(stand)
     }

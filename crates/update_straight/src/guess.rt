@@ -20,6 +20,7 @@ struct Where {
 }
 
 // About an element's value: `reach` is that at the rate 1, and w the root of 1 / rate.
+// Stays beside `limited` of update_value, whose min and max look for a not-a-number too: with them `roughly` took twice as long.
 fn rough(x: f64, reach: f64, m: f64, w: f64) -> f64 {
     let mut low = x - m;
     if low < topo::X_MIN {
@@ -55,30 +56,75 @@ impl Sums {
     }
 }
 
-// Stays, here and below, that the reaches are as many as the elements: `reaches` writes them, so they are no part of the problem.
-// About the volume that a rate adds, summed in another order: every second element apart, so that two sums are under way at a time.
-fn roughly(at: Sloped, reach: &[f64], w: f64) -> Sums
-    requires { length reach.now ≡ length at.problem.x.now }
-{
-    let Problem { x, dv, m, .. } = at.problem;
-    let none = Sums {
-        volume: 0.0,
-        slope: 0.0,
-    };
-    let mut even = none;
-    let mut odd = none;
-    let pairs = x.len() / 2;
-    for k in 0..pairs {
-        let i = 2 * k;
-        even = even.plus(x[i], reach[i], dv[i], m, w);
-        odd = odd.plus(x[i + 1], reach[i + 1], dv[i + 1], m, w);
+// A problem with the reach of each element.
+#[derive(Clone, Copy)]
+struct Reaching<'a> {
+    at: Sloped<'a>,
+    reach: &'a [f64],
+    ghost as_many: { length reach.now ≡ length at.problem.x.now },
+}
+
+impl<'a> Reaching<'a> {
+    // About the volume that a rate adds, summed in another order: every second element apart, so that two sums are under way at a time.
+    fn roughly(self, w: f64) -> Sums {
+        let Problem { x, dv, m, .. } = self.at.problem;
+        let reach = self.reach;
+        let none = Sums {
+            volume: 0.0,
+            slope: 0.0,
+        };
+        let mut even = none;
+        let mut odd = none;
+        let pairs = x.len() / 2;
+        for k in 0..pairs {
+            let i = 2 * k;
+            even = even.plus(x[i], reach[i], dv[i], m, w);
+            odd = odd.plus(x[i + 1], reach[i + 1], dv[i + 1], m, w);
+        }
+        for i in 2 * pairs..x.len() {
+            even = even.plus(x[i], reach[i], dv[i], m, w);
+        }
+        Sums {
+            volume: even.volume + odd.volume,
+            slope: even.slope + odd.slope,
+        }
     }
-    for i in 2 * pairs..x.len() {
-        even = even.plus(x[i], reach[i], dv[i], m, w);
+
+    // Where the free values would keep what they keep now, but for their bounds.
+    fn begins(self) -> f64 {
+        let Problem { x, dv, .. } = self.at.problem;
+        let mut a = 0.0;
+        let mut b = 0.0;
+        for (i, r) in self.reach.iter().enumerate() {
+            let free = *r < 1e299;
+            a = a + lists::either(free, dv[i] * x[i], 0.0);
+            b = b + lists::either(free, dv[i] * *r, 0.0);
+        }
+        a / b
     }
-    Sums {
-        volume: even.volume + odd.volume,
-        slope: even.slope + odd.slope,
+
+    // By Newton's iteration between bounds.
+    fn met(self, add: f64, tolerance: f64) -> Where {
+        let mut low = 0.0;
+        let mut high = 1e300;
+        let mut w = self.begins();
+        let mut slope = 0.0;
+        for _ in 0..60 {
+            let r = self.roughly(w);
+            let lacks = add - r.volume;
+            slope = r.slope;
+            if ieee::abs(lacks) <= tolerance {
+                return Where { w, slope };
+            }
+            let more = lacks > 0.0;
+            low = lists::either(more, w, low);
+            high = lists::either(more, high, w);
+            let next = w + lacks / slope;
+            let inside = (next > low) & (next < high);
+            let half = lists::either(high < 1e300, 0.5 * (low + high), 2.0 * w);
+            w = lists::either(inside, next, half);
+        }
+        Where { w, slope }
     }
 }
 
@@ -97,47 +143,6 @@ pub fn reaches(problem: Problem, reach: &mut [f64])
     }
 }
 
-// Where the free values would keep what they keep now, but for their bounds.
-fn begins(at: Sloped, reach: &[f64]) -> f64
-    requires { length reach.now ≡ length at.problem.x.now }
-{
-    let Problem { x, dv, .. } = at.problem;
-    let mut a = 0.0;
-    let mut b = 0.0;
-    for (i, r) in reach.iter().enumerate() {
-        let free = *r < 1e299;
-        a = a + lists::either(free, dv[i] * x[i], 0.0);
-        b = b + lists::either(free, dv[i] * *r, 0.0);
-    }
-    a / b
-}
-
-// By Newton's iteration between bounds.
-fn met(at: Sloped, reach: &[f64], add: f64, tolerance: f64) -> Where
-    requires { length reach.now ≡ length at.problem.x.now }
-{
-    let mut low = 0.0;
-    let mut high = 1e300;
-    let mut w = begins(at, reach);
-    let mut slope = 0.0;
-    for _ in 0..60 {
-        let r = roughly(at, reach, w);
-        let lacks = add - r.volume;
-        slope = r.slope;
-        if ieee::abs(lacks) <= tolerance {
-            return Where { w, slope };
-        }
-        let more = lacks > 0.0;
-        low = lists::either(more, w, low);
-        high = lists::either(more, high, w);
-        let next = w + lacks / slope;
-        let inside = (next > low) & (next < high);
-        let half = lists::either(high < 1e300, 0.5 * (low + high), 2.0 * w);
-        w = lists::either(inside, next, half);
-    }
-    Where { w, slope }
-}
-
 // The bracket that halving is likely to come to, all but its last rate.
 pub fn guess(at: Sloped, reach: &[f64], first: f64) -> Bracket
     requires { length reach.now ≡ length at.problem.x.now }
@@ -147,7 +152,8 @@ pub fn guess(at: Sloped, reach: &[f64], first: f64) -> Bracket
         tolerance,
         ..
     } = at.problem;
-    let Where { w, slope } = met(at, reach, target - at.solid, 0.01 * tolerance);
+    let reaching = Reaching { at, reach };
+    let Where { w, slope } = reaching.met(target - at.solid, 0.01 * tolerance);
     let rate = 1.0 / (w * w);
     // a rate that differs by this share keeps a volume off the target
     let off = 1.1 * tolerance / (0.5 * w * slope);

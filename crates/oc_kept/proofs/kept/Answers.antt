@@ -8,5 +8,5 @@ pub returns-in-Straight : goal.returns-in-Straight
 returns-in-Straight c = kept-straight _ _ _ _ _ _ _ _ _ _ _ c.in-Straight.is c.dot.ensures refl
 
 pub returns-in-Sharpened : goal.returns-in-Sharpened
-returns-in-Sharpened c = let o = density-is _ _ _ _ _ _ _ _ _ c.filtered.ensures c.requires.density_len c.sharpen.ensures in
+returns-in-Sharpened c = let o = density-is _ _ _ _ _ _ _ _ _ c.filtered.ensures c.requires c.sharpen.ensures in
     kept-sharpened _ _ _ _ _ _ _ _ _ _ _ c.in-Sharpened.is o c.dot-in-Sharpened.ensures

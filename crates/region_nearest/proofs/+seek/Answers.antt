@@ -6,8 +6,9 @@ use lib.Ieee.{Float, le}
 use lib.ListN.{length, take, drop}
 use Rattle.geom.specs.Vectors.{vec}
 use Rattle.lists.proofs.Laws.{choose-true, choose-false}
-use Rattle.region_tree.specs.declared.Bounds.{Bounds}
-use Rattle.region_tree.specs.Steps.{bounds_at, tree_in}
+use Rattle.geom.specs.declared.Bounds.{Bounds}
+use Rattle.geom.specs.Boxes.{bounds_at}
+use Rattle.region_tree.specs.Steps.{tree_in}
 use Rattle.region_nearest.specs.Nearest.{gap_of, at_leaf, search_in}
 use Rattle.region_nearest.proofs.Searches.{read_low, read-high, passes, at_leaf_lem, low_first, high-first, stops, goes-on}
 use Rattle.region_nearest.proofs.+seek.Goals as goal

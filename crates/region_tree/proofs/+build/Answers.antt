@@ -6,8 +6,9 @@ use native.Mathlib.Omega.{arith}
 use lib.ListN.{length, set}
 use Rattle.region_median.specs.Median.{rank_by, parted}
 use Rattle.region_tree.specs.Tree.{axis_of, keys_along, tree_of}
-use Rattle.region_tree.specs.declared.Axis.{Axis}
-use Rattle.region_tree.specs.Steps.{stored, tree_in}
+use Rattle.geom.specs.declared.Axis.{Axis}
+use Rattle.geom.specs.Boxes.{stored}
+use Rattle.region_tree.specs.Steps.{tree_in}
 use Rattle.region_tree.proofs.Halves.{Lent, front_length, back_is, back-length, two_is}
 use Rattle.region_tree.proofs.Stored.{builds-leaf, builds-fork}
 use Rattle.region_tree.proofs.+build.Goals as goal

@@ -7,6 +7,6 @@ use lib.ListN.{get_or-eq_default}
 use mathlib.Core.List.{[]}
 use mathlib.Core.Path.{sym, ap, ◌∙◌}
 
-pub returns : goal.returns
+pub returns-in-None : goal.returns-in-None
 unfolding face_at corners_of div of_bits
-returns c = c.from-2.ensures ∙ ap corners_of (sym (get_or-eq_default c.args.faces.now [] c.if-k-faces.false))
+returns-in-None c = c.from-in-None.ensures ∙ ap corners_of (sym (get_or-eq_default c.args.faces.now [] c.in-None.ensures.lookup.3))

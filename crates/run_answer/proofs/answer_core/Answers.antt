@@ -19,10 +19,10 @@ pub returns-in-Begins-clause-answered : goal.returns-in-Begins-clause-answered
 returns-in-Begins-clause-answered c = begins_law _ _ _ _ _ _ c.verdict.ensures _ _ _ c.in-Begins.is c.begins.ensures.begun
 
 pub solves-requires : goal.solves-requires
-solves-requires c = record {
-  enough = solves-enough _ _ _ _ _ _ c.verdict.ensures c.in-Solves.is;
-  fit = solves-fit _ _ _ _ c.verdict.ensures c.in-Solves.is;
-}
+solves-requires c = solves-enough _ _ _ _ _ _ c.verdict.ensures c.in-Solves.is
+
+pub invariant_of-solves : goal.invariant_of-solves
+invariant_of-solves c = record { fit = solves-fit _ _ _ _ c.verdict.ensures c.in-Solves.is }
 
 pub returns-in-Solves-clause-answered : goal.returns-in-Solves-clause-answered
 returns-in-Solves-clause-answered c = solves_law _ _ _ _ _ _ c.verdict.ensures _ _ _ c.in-Solves.is c.solves.ensures.followed

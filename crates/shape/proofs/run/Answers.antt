@@ -14,14 +14,14 @@ use lib.ListN.{length}
 use lib.Seq.{length-take-le}
 use mathlib.Core.Bool.{Bool, false}
 use mathlib.Core.List.{List}
-use mathlib.Core.Path.{◌≡◌, ap}
+use mathlib.Core.Path.{◌≡◌}
 
--- the energies have a place for each element
-sized : (goal : Goal) (v : List Float) (c : List (List Float)) (ws : List Float) (p : List Bool) (m : List (List Float)) {n r : ℕ} {a b : List ℕ} → n ≡ length v
-    → Wrote (text_of (outcome_of (job_of ws n (open_work 256) (answer_work 256) (record { centroids = c; mirrors = m; goal = goal; flag = false }) (lists v p)))) 0 a b r
+-- the energies have a place for each element, and the job goes on
+sized : (goal : Goal) (v : List Float) (c : List (List Float)) (ws : List Float) (p : List Bool) (m : List (List Float)) {n r : ℕ} {f : Bool} {a b : List ℕ} → n ≡ length v → f ≡ false
+    → Wrote (text_of (outcome_of (job_of ws n (open_work 256) (answer_work 256) (record { centroids = c; mirrors = m; goal = goal; flag = f }) (lists v p)))) 0 a b r
     → Wrote (text_of (outcome_from goal v c ws p m)) 0 a b r
 unfolding outcome_from
-sized goal v c ws p m e w = retext (ap (λ (k : ℕ). text_of (outcome_of (job_of ws k (open_work 256) (answer_work 256) (record { centroids = c; mirrors = m; goal = goal; flag = false }) (lists v p)))) e) w
+sized goal v c ws p m e g w = retext (λ i. text_of (outcome_of (job_of ws (e i) (open_work 256) (answer_work 256) (record { centroids = c; mirrors = m; goal = goal; flag = g i }) (lists v p)))) w
 
 pub returns-clause-wrote : goal.returns-clause-wrote
-returns-clause-wrote c = sized _ _ _ _ _ _ (length-take-le _ _ c.requires) c.text.ensures.wrote
+returns-clause-wrote c = sized _ _ _ _ _ _ (length-take-le _ _ c.requires.few) c.requires.goes_on c.text.ensures.wrote

@@ -10,6 +10,6 @@ use mathlib.Core.Path.{ap, ◌∙◌}
 abbrev rated : Float → Float
 rated most = choose (lt zero64 most) (mul binary64 ten_thousand most) one64
 
-pub search-stand-requires-clause-first_value : goal.search-stand-requires-clause-first_value
+pub invariant_of-start : goal.invariant_of-start
 unfolding first_rate
-search-stand-requires-clause-first_value c = c.first_rate-first.ensures ∙ ap rated c.most.ensures
+invariant_of-start c = record { first_is = c.first_rate-first.ensures ∙ ap rated c.most.ensures }

@@ -62,3 +62,9 @@ loop-e-preserved c =
         edges-long = is.edges-long ∙ was.edges-long;
       };
     }
+
+pub returns : goal.returns
+returns c =
+    let last : c.loop-e.e ≡ tets_in c.args.self.grid = omega (arith, c.loop-e.invariant.joins.passed, c.loop-e-test.false, c.tet_count-e-end.ensures) in
+    let j = join-end _ _ _ _ c.args.self.small c.requires _ _ _ last c.loop-e.invariant.joins in
+    record { next-is = j.next-is; nodes-are = lent _ _ _ j.nodes-are (search rules); tets-are = j.tets-are; edges_are = lent-under _ _ _ _ _ j.edges_are (search rules) }

@@ -6,6 +6,6 @@ use lib.ListN.{get_or-eq_default}
 use mathlib.Core.List.{[]}
 use mathlib.Core.Path.{sym, ap, ◌∙◌}
 
-pub returns : goal.returns
+pub returns-in-None : goal.returns-in-None
 unfolding div of_bits
-returns c = c.new.ensures ∙ ap point (sym (get_or-eq_default c.args.nodes.now [] c.if-i-nodes.false))
+returns-in-None c = c.from-in-None.ensures ∙ ap point (sym (get_or-eq_default c.args.nodes.now [] c.in-None.ensures.lookup.3))

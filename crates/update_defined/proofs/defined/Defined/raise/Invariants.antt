@@ -9,5 +9,5 @@ use Rattle.update_rates.specs.Rates.{reckoned}
 abbrev pub invariant-loop-passes : goal.invariant-loop-passes
 invariant-loop-passes l = let g = defined_of l.self in record {
   kept : l.kept ≡ reckoned g l.design;
-  goes_on : raise_rest g l.bracket l.design l.kept l.passes ≡ raise_rest g (record { low = zero64; high = l.first }) l.initial.design l.begun 1;
+  goes_on : raise_rest g l.bracket l.design l.kept l.passes ≡ raise_rest g (record { low = zero64; high = l.self.start.first }) l.initial.design l.begun 1;
 }

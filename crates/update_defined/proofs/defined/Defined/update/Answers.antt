@@ -6,4 +6,4 @@ use Rattle.update_rates.specs.Rates.{trial}
 
 pub returns : goal.returns
 unfolding trial
-returns c = stages (defined_of c.args.self) _ _ _ _ _ _ _ c.requires.rate_value c.design_at.ensures c.kept-kept.ensures c.raise-up.ensures.stand c.halve.ensures
+returns c = stages (defined_of c.args.self) _ _ _ _ _ _ _ c.args.self.start.first_is c.design_at.ensures c.kept-kept.ensures c.raise-up.ensures.stand c.halve.ensures

@@ -12,5 +12,5 @@ invariant-loop-passes l = let g = sharp_of l.self in record {
   off : l.off ≡ off_at g l.rate;
   kept : l.at.kept ≡ reckoned g (trial g l.rate);
   ahead : IsAhead g l.at l.design l.work;
-  goes_on : rest g l.bracket l.rate l.passes ≡ while_to (halves g) (halved g) (200 - 1) (stand_at g zero64 l.first l.first 1);
+  goes_on : rest g l.bracket l.rate l.passes ≡ while_to (halves g) (halved g) (200 - 1) (stand_at g zero64 l.self.first l.self.first 1);
 }

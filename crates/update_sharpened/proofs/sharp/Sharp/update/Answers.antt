@@ -26,4 +26,4 @@ returns c =
     let g = sharp_of s in
     let k = c.kept-keep.ensures.0 ∙ volume-is s _ ∙ ap (reckoned g) c.design_at.ensures in
     let h = c.halve-rate.ensures in
-    searched g c.args.first _ _ _ _ _ _ c.requires.first_value (sym (c.of.ensures.0 ∙ ap (lt s.problem.target) k) ∙ c.if-of.false) h.stand c.design_at-3.ensures (h.kept ∙ ap (reckoned g) (sym c.design_at-3.ensures))
+    searched g s.first _ _ _ _ _ _ s.first_is (sym (c.of.ensures.0 ∙ ap (lt s.problem.target) k) ∙ c.if-of.false) h.stand c.design_at-3.ensures (h.kept ∙ ap (reckoned g) (sym c.design_at-3.ensures))

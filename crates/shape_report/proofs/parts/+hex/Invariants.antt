@@ -1,5 +1,0 @@
--- `hex` ends: the number of digits still to write falls.
-use Rattle.shape_report.proofs.parts.+hex.Given as goal
-
-abbrev pub decreases-hex : goal.decreases-hex
-decreases-hex l = l.k

@@ -1,8 +1,0 @@
--- What is written is the first lines.
-use Rattle.std.proofs.Common.{take}
-use Rattle.shape_report.specs.Report.{element_line, lines_from}
-use Rattle.shape_report.specs.Steps.{Wrote}
-use Rattle.shape_report.proofs.parts.element_lines.Given as goal
-
-abbrev pub invariant-loop-e : goal.invariant-loop-e
-invariant-loop-e l = Wrote (lines_from element_line 1 (take l.e l.density)) l.at l.initial.out l.out l.next

@@ -1,8 +1,0 @@
--- What is written is the first lines.
-use Rattle.std.proofs.Common.{take}
-use Rattle.shape_report.specs.Report.{round_line, lines_from}
-use Rattle.shape_report.specs.Steps.{Wrote}
-use Rattle.shape_report.proofs.parts.round_lines.Given as goal
-
-abbrev pub invariant-loop-r : goal.invariant-loop-r
-invariant-loop-r l = Wrote (lines_from (λ k r. round_line r) 1 (take l.r-index l.records)) l.at l.initial.out l.out l.next
