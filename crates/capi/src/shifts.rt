@@ -17,7 +17,7 @@ pub extern "C" fn sokdrib_shift_begin(jobs: &[[u32; 2]]) -> ShiftBegun
 pub extern "C" fn sokdrib_shift_grant(shift: Shift, named: &[u32]) -> ShiftGrant
     ensures { result ≡ grant_of shift named.now }
 {
-    let mut next = shift;
+    let mut next = shift.copied();
     let outcome = next.grant(named);
     ShiftGrant::new(outcome, next)
 }

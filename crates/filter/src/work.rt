@@ -3,6 +3,7 @@ ghost use Rattle.std.specs.Prelude.{◌≡◌};
 ghost use Rattle.lent.specs.Lent.{short};
 ghost use Rattle.filter.specs.Build.{work_needed, work_lengths};
 ghost use Rattle.filter.specs.Held.{working};
+ghost use Rattle.filter.specs.Lengths.{lengths};
 
 // What a table is built of: the elements' middles and volumes, the radius, and the planes of symmetry, each by its point and its normal.
 #[derive(Clone, Copy)]
@@ -34,19 +35,47 @@ pub struct Work<'a> {
     pub bits: &'a mut [u64],
 }
 
-impl Work<'_> {
+// How long each of them is.
+#[derive(Clone, Copy)]
+pub struct WorkLengths {
+    pub cell: usize,
+    pub order: usize,
+    pub first: usize,
+    pub sorted: usize,
+    pub stamp: usize,
+    pub weight: usize,
+    pub found: usize,
+    pub bits: usize,
+}
+
+impl WorkLengths {
+    pub fn of(work: &Work) -> WorkLengths
+        ensures { lengths result ≡ work_lengths (working work.now) }
+    {
+        WorkLengths {
+            cell: work.cell.len(),
+            order: work.order.len(),
+            first: work.first.len(),
+            sorted: work.sorted.len(),
+            stamp: work.stamp.len(),
+            weight: work.weight.len(),
+            found: work.found.len(),
+            bits: work.bits.len(),
+        }
+    }
+
     // Whether one of them is too short for n elements.
     #[tactic(auto, unfolding(lent::specs::Lent::short))]
-    pub fn is_short(&self, n: usize) -> bool
-        ensures { result ≡ short (work_lengths (working self.now)) (work_needed n) }
+    pub fn is_short(self, n: usize) -> bool
+        ensures { result ≡ short (lengths self) (work_needed n) }
     {
-        (self.cell.len() < n)
-            | (self.order.len() < n)
-            | (self.first.len() <= n)
-            | (self.sorted.len() < n)
-            | (self.stamp.len() < n)
-            | (self.weight.len() < n)
-            | (self.found.len() < n)
-            | (self.bits.len() < 1040)
+        (self.cell < n)
+            | (self.order < n)
+            | (self.first <= n)
+            | (self.sorted < n)
+            | (self.stamp < n)
+            | (self.weight < n)
+            | (self.found < n)
+            | (self.bits < 1040)
     }
 }

@@ -1,18 +1,18 @@
 // What a build of the filter's table is refused for before any row. No surface of its own.
 #![tactic(auto)]
 
-ghost use Rattle.std.specs.Prelude.{◌≡◌};
+ghost use Rattle.std.specs.Prelude.{◌≡◌, ◌∷◌};
 ghost use Rattle.refusal.specs.Refusals.{refused};
-ghost use Rattle.filter.specs.Build.{lengths_of, early};
-ghost use Rattle.filter.specs.Held.{lent};
+ghost use Rattle.filter.specs.Build.{early};
+ghost use Rattle.filter.specs.Lengths.{lengths};
 
-use filter::work::{Input, TableMut, Work};
+use filter::work::{Input, WorkLengths};
 use refusal::Refusal;
 
-// What is refused before any row, in 01's order.
+// What is refused before any row, in 01's order: of the lists only the lengths are looked at.
 #[tactic(auto, unfolding(lists::specs::Lists::choose, lent::specs::Lent::short, filter::specs::Build::early))]
-pub fn check(input: Input, table: &TableMut, work: &Work) -> Result<(), Refusal>
-    ensures { refused result ≡ early input.entry.centroids.now input.entry.volumes.now input.entry.radius input.entry.planes.now (lengths_of (lent table.now work.now)) }
+pub fn check(input: Input, starts: usize, work: WorkLengths) -> Result<(), Refusal>
+    ensures { refused result ≡ early input.entry.centroids.now input.entry.volumes.now input.entry.radius input.entry.planes.now (starts ∷ lengths work) }
 {
     let n = input.centroids.len();
     if input.volumes.len() != n {
@@ -34,7 +34,7 @@ pub fn check(input: Input, table: &TableMut, work: &Work) -> Result<(), Refusal>
         return Err(Refusal::PointOutside);
     }
     filter_group::check(input.planes)?;
-    if table.starts.len() <= n || work.is_short(n) {
+    if starts <= n || work.is_short(n) {
         return Err(Refusal::ListTooShort);
     }
     Ok(())

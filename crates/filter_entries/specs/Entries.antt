@@ -31,3 +31,5 @@ pub record Written (at : ℕ) (sum : Float) (volumes : List Float) (m : Met) (t 
   pub weights : m'.weight.now ≡ cleared m.found.now m.count m.weight.now
   pub stamps : m'.stamp.now ≡ m.stamp.now
   pub found : m'.found.now ≡ m.found.now
+  pub map : m'.bits.now ≡ m.bits.now
+  pub count : m'.count ≡ m.count

@@ -12,4 +12,5 @@ pub record Done (s : Search) (x0 x1 y0 y1 z0 z1 : ℕ) (s' : Search) : Type 0 wh
   pub q : s'.q ≡ s.q
   pub met : s'.met.ghost_name ≡ s.met.ghost_name
   pub kept : Kept s.met.now s'.met.now
+  pub found : s'.met.now.found.now ≡ s.met.now.found.now
   pub took : Took (near_box s.g.now s.q x0 x1 y0 y1 z0 z1) (gained s.g.now.centroids.now s.g.now.radius s.q) s.met.now s'.met.now

@@ -1,5 +1,5 @@
 // The elements that a row meets, under each member of the group in turn.
-ghost use Rattle.std.specs.Prelude.{◌<◌, length};
+ghost use Rattle.std.specs.Prelude.{◌≡◌, ◌<◌, length};
 ghost use Rattle.filter_group.specs.Group.{members};
 ghost use Rattle.filter_look.specs.Steps.{Lists, Kept, Gathered};
 
@@ -14,6 +14,7 @@ pub fn gather(g: &Grid, planes: Planes, e: usize, met: &mut Met)
     requires lists { Lists (length g.now.cell.now) met.old }
     requires gathered { Gathered g.now.centroids.now g.now.radius planes.lent.now e 0 met.old }
     ensures kept { Kept met.old met.new }
+    ensures found { met.new.found.now ≡ met.old.found.now }
     ensures lists_2 { Lists (length g.now.cell.now) met.new }
     ensures gathered_2 { Gathered g.now.centroids.now g.now.radius planes.entry.lent.now e (members planes.entry.lent.now) met.new }
 {

@@ -1,5 +1,5 @@
 // The elements near a point: the columns of cubes about it, each a run of positions.
-ghost use Rattle.std.specs.Prelude.{length};
+ghost use Rattle.std.specs.Prelude.{◌≡◌, length};
 ghost use Rattle.filter.specs.Filter.{counts};
 ghost use Rattle.filter_look.specs.Steps.{gained, Lists, Kept, Took};
 ghost use Rattle.filter_meet.specs.Searches.{Ready, Done};
@@ -46,6 +46,7 @@ impl Walker for Search<'_, '_> {
 pub fn around(g: &Grid, q: Vec3, met: &mut Met)
     requires { Lists (length g.now.cell.now) met.old }
     ensures kept { Kept met.old met.new }
+    ensures found { met.new.found.now ≡ met.old.found.now }
     ensures took { Took (counts g.now.centroids.now g.now.radius q) (gained g.now.centroids.now g.now.radius q) met.old met.new }
 {
     if g.extent.is_outside(g.radius, q) {

@@ -156,7 +156,7 @@ module _ (centroids : List (List Float)) (radius : Float) (planes : List (List F
           maps = omega (arith, l.maps, k.maps);
           founds = omega (arith, room, k.founds);
           zero = zero-again;
-          most = λ i lt. omega (arith, all.most i lt, ap (λ (w : List ℕ). get_or w i 0) (s.stamps ok));
+          most = λ i lt. omega (arith, all.most i lt, ap (λ (w : List ℕ). get_or w i 0) s.stamps);
         }
 
   pub row_rowed : Rowed centroids radius planes volumes e at t number end t'

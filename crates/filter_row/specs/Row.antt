@@ -15,7 +15,8 @@ pub record Settled (e at : ℕ) (volumes : List Float) (m : Met) (t : TableMut) 
   pub ends : end ≡ at + m.count
   pub numbers : number ≡ room_refusal e end (length t.near.now) (length t.coef.now)
   pub starts : t'.starts.now ≡ t.starts.now
-  pub stamps : number ≡ 0 → m'.stamp.now ≡ m.stamp.now
+  pub stamps : m'.stamp.now ≡ m.stamp.now
+  pub count : m'.count ≡ m.count
   pub all : number ≡ 0 → take m.count m'.found.now ≡ chosen (stamped m.stamp.now m.mark) (length m.stamp.now)
   pub weights : number ≡ 0 → m'.weight.now ≡ cleared m'.found.now m.count m.weight.now
   pub nears : number ≡ 0 → t'.near.now ≡ written at (λ k. get_or m'.found.now k 0) m.count t.near.now

@@ -7,3 +7,4 @@ pub mod Every
 pub mod Monotone
 pub mod Examples
 mod Library
+mod Apart

@@ -7,6 +7,7 @@ use Rattle.lists.specs.Lists.{zero64}
 use Rattle.ieee.specs.Basic.{one64}
 use Rattle.topo.specs.declared.Iteration.{Iteration}
 use Rattle.topo.specs.declared.Sharpening.TheVariants.{Off}
+use Rattle.topo.specs.Stages.{sharpening_of}
 use Rattle.topo.specs.declared.Stop.TheVariants.{Limit}
 use Rattle.update_rates.specs.Rates.{half}
 use Rattle.shape_solver.specs.Energies.{energies_of}
@@ -48,7 +49,7 @@ strip =
 
 -- what a reading of it says: 64-bit patterns
 abbrev pub head : Job
-head = record { elements = 2; fraction = 0x3fe8_0000_0000_0000; radius = 0x3ff0_0000_0000_0000; sharpen = Off; max_iterations = 1; mirrors = 0 }
+head = record { elements = 2; fraction = 0x3fe8_0000_0000_0000; radius = 0x3ff0_0000_0000_0000; sharpen = 0; max_iterations = 1; mirrors = 0 }
 
 -- "It holds 256 elements [..], all zero at the start"
 abbrev pub empty : Lists
@@ -76,7 +77,7 @@ opening_from j l =
       centroids = map (map (of_bits binary64)) (take j.elements l.centroids);
       passive = take j.elements l.passive;
       mirrors = map (map (of_bits binary64)) (take j.mirrors l.mirrors);
-      goal = record { fraction = of_bits binary64 j.fraction; radius = of_bits binary64 j.radius; sharpen = j.sharpen; max_iterations = j.max_iterations };
+      goal = record { fraction = of_bits binary64 j.fraction; radius = of_bits binary64 j.radius; sharpen = sharpening_of j.sharpen; max_iterations = j.max_iterations };
       flag = false;
       lent = room (256 ∷ 256 ∷ 257 ∷ 256 ∷ 256 ∷ 256 ∷ 256 ∷ 1040 ∷ []);
     }

@@ -1,6 +1,5 @@
 // What the triangles of a set reach.
-ghost use Rattle.std.specs.Prelude.{◌≡◌, length, get_or};
-ghost use Rattle.std.specs.Float.{nan};
+ghost use Rattle.std.specs.Prelude.{◌≡◌, length};
 ghost use Rattle.region_by_nodes.specs.Nodes.{in_set};
 ghost use Rattle.region_cells.specs.Depth as Depth;
 ghost use Rattle.region_cells.specs.Steps.{reached, reached_by};
@@ -52,19 +51,19 @@ fn reach_all(nodes: &[[f64; 3]], set: KeptSet, depth: f64, middles: Middles, mar
     }
 }
 
-// Marks what a set reaches at its depth.
+// Marks what a set reaches at a depth.
 pub fn by_depth(
     nodes: &[[f64; 3]],
     set: KeptSet,
+    depth: f64,
     centroids: &[[f64; 3]],
     filing: &mut Filing,
     marks: &mut [bool],
 )
     requires { Long (length centroids.now) filing.old × (length marks.old ≡ length centroids.now) }
     ensures long { Long (length centroids.now) filing.new }
-    ensures marked { let b = set.entry.boundary in let of = in_set b.surfaces.now b.starts.now b.kept.now set.entry.number in let depth = get_or b.depths.now set.entry.number nan in marks.new ≡ reached_by nodes.now b.tris.now of (Depth.cell_size nodes.now b.tris.now of depth) depth centroids.now (length b.tris.now) marks.old }
+    ensures marked { let b = set.entry.boundary in let of = in_set b.surfaces.now b.starts.now b.kept.now set.entry.number in marks.new ≡ reached_by nodes.now b.tris.now of (Depth.cell_size nodes.now b.tris.now of depth) depth centroids.now (length b.tris.now) marks.old }
 {
-    let depth = set.boundary.depths[set.number];
     let size = region_cells::cell_size(nodes, set, depth);
     let cells = &mut *filing.cells;
     let order = &mut *filing.order;

@@ -1,22 +1,22 @@
 // A boundary with kept sets of its surfaces.
-ghost use Rattle.std.specs.Prelude.{◌≤◌, ◌<◌, length};
+ghost use Rattle.std.specs.Prelude.{◌+◌, ◌≤◌, ◌<◌, length};
 
-// Triangles, each with its surface, and the sets: set s has the surfaces kept[starts[s]] .. kept[starts[s + 1] - 1], and a depth.
+// Triangles, each with its surface, and the sets: set s has the surfaces kept[starts[s]] .. kept[starts[s + 1] - 1].
 #[derive(Clone, Copy)]
 pub struct Boundary<'a> {
     pub tris: &'a [[u32; 6]],
     pub surfaces: &'a [u32],
     pub starts: &'a [u32],
     pub kept: &'a [u32],
-    pub depths: &'a [f64],
+    pub sets: usize,
     ghost surfaced: { length tris.now ≤ length surfaces.now },
-    ghost begun: { length depths.now < length starts.now },
+    ghost begun: { sets < length starts.now },
 }
 
-// One of its sets.
+// Set `number`: `starts` has its beginning and its end.
 #[derive(Clone, Copy)]
 pub struct KeptSet<'a> {
     pub boundary: Boundary<'a>,
     pub number: usize,
-    ghost there: { number < length boundary.depths.now },
+    ghost there: { number + 1 < length boundary.starts.now },
 }

@@ -56,9 +56,9 @@ fn flag_set(set: KeptSet, keep: &mut [bool])
 // Flags the nodes of all sets.
 #[tactic(auto, unfolding(crate::specs::Steps::flagged_sets, lists::specs::Lists::fold_to))]
 fn flag_sets(b: Boundary, keep: &mut [bool])
-    ensures { keep.new ≡ flagged_sets b.entry.tris.now b.entry.surfaces.now b.entry.starts.now b.entry.kept.now (length b.entry.depths.now) keep.old }
+    ensures { keep.new ≡ flagged_sets b.entry.tris.now b.entry.surfaces.now b.entry.starts.now b.entry.kept.now b.entry.sets keep.old }
 {
-    for s in 0..b.depths.len() {
+    for s in 0..b.sets {
         let set = KeptSet {
             boundary: b,
             number: s,
@@ -107,7 +107,7 @@ pub fn by_nodes(
     marks: &mut [bool],
 )
     requires { length marks.old ≡ length tets.now }
-    ensures { marks.new ≡ tabulate (λ e. by_nodes b.entry.tris.now b.entry.surfaces.now b.entry.starts.now b.entry.kept.now held.now loaded.now (length b.entry.depths.now) (length keep.old) (get_or tets.now e [])) (length tets.now) }
+    ensures { marks.new ≡ tabulate (λ e. by_nodes b.entry.tris.now b.entry.surfaces.now b.entry.starts.now b.entry.kept.now held.now loaded.now b.entry.sets (length keep.old) (get_or tets.now e [])) (length tets.now) }
 {
     keep.fill(false);
     flag_all(held, keep);

@@ -1,5 +1,5 @@
 // The call's stages, on lists that are as long as needed, and on longer ones.
-ghost use Rattle.std.specs.Prelude.{◌≡◌, [], length, get_or};
+ghost use Rattle.std.specs.Prelude.{◌≡◌, [], ◌≤◌, length, get_or};
 ghost use Rattle.lists.specs.Lists.{tabulate};
 ghost use Rattle.geom.specs.Points.{stored};
 ghost use Rattle.mesh.specs.Mesh.{centroid_of};
@@ -27,20 +27,21 @@ fn centroids_of(nodes: &[[f64; 3]], tets: &[[u32; 10]], centroids: &mut [[f64; 3
 fn by_depths(
     nodes: &[[f64; 3]],
     b: Boundary,
+    depths: &[f64],
     centroids: &[[f64; 3]],
     filing: &mut Filing,
     marks: &mut [bool],
 )
-    requires { Long (length centroids.now) filing.old × (length marks.old ≡ length centroids.now) }
-    ensures { marks.new ≡ deepened_to (record { nodes = nodes.now; tets = []; tris = b.entry.tris.now; surfaces = b.entry.surfaces.now; held = []; loaded = []; starts = b.entry.starts.now; kept = b.entry.kept.now; depths = b.entry.depths.now }) centroids.now (length b.entry.depths.now) marks.old }
+    requires { (length depths.now ≤ b.sets) × Long (length centroids.now) filing.old × (length marks.old ≡ length centroids.now) }
+    ensures { marks.new ≡ deepened_to (record { nodes = nodes.now; tets = []; tris = b.entry.tris.now; surfaces = b.entry.surfaces.now; held = []; loaded = []; starts = b.entry.starts.now; kept = b.entry.kept.now; depths = depths.now }) centroids.now (length depths.now) marks.old }
 {
-    for (s, depth) in b.depths.iter().enumerate() {
+    for (s, depth) in depths.iter().enumerate() {
         if lent::is_depth(*depth) {
             let set = KeptSet {
                 boundary: b,
                 number: s,
             };
-            region_by_depth::reach::by_depth(nodes, set, centroids, filing, marks);
+            region_by_depth::reach::by_depth(nodes, set, *depth, centroids, filing, marks);
         }
     }
 }
@@ -61,14 +62,14 @@ fn mark(
         surfaces: part.surfaces,
         starts: part.starts,
         kept: part.kept,
-        depths: part.depths,
+        sets: part.depths.len(),
     };
     region_by_nodes::by_nodes(part.tets, b, part.held, part.loaded, keep, marks);
     if part.tets.is_empty() {
         return;
     }
     centroids_of(part.nodes, part.tets, centroids);
-    by_depths(part.nodes, b, centroids, filing, marks);
+    by_depths(part.nodes, b, part.depths, centroids, filing, marks);
 }
 
 // The same in lists that may be longer, of which the places past those needed are left as they were lent.

@@ -9,7 +9,7 @@ use replay_sample::read::{Recorded, are, fill};
 use replay_sample::words::{number, same, word};
 use run_plain::{Elements, Fields, Heard, Job, OpenFields, Reply, Returned, Said, State, Work};
 use std::io::Read;
-use topo::{Goal, Iteration};
+use topo::{Goal, Iteration, Sharpening};
 
 // The records that a run may make, and more turns than it takes.
 const ROOM: usize = 120;
@@ -165,10 +165,19 @@ fn is_end(sample: &mut impl Read, t: Replayed, last: &[f64]) -> bool {
     t.same
 }
 
+// The Rust knows no full stages: every number but 0 is its sharpening.
+// Stays a function: `topo`'s has 2 for full stages.
+fn sharpening(n: u64) -> Sharpening {
+    if n == 0 {
+        return Sharpening::Off;
+    }
+    Sharpening::Early
+}
+
 fn goal(sample: &mut impl Read) -> Goal {
     let fraction = number(sample);
     let radius = number(sample);
-    let sharpen = topo::sharpening_of(u32::read(sample));
+    let sharpen = sharpening(word(sample));
     let max_iterations = (word(sample) % 1000) as usize;
     Goal {
         fraction,

@@ -1,6 +1,7 @@
 // One case of `block`, of at most 2 cells a side: the cells, the size; then how many nodes, tetrahedra and triangles there are, and their lists, of 125, 48 and 48
 // places, zero behind the last.
 use mesh_block::{Counts, Lists};
+use refusal::Refusal;
 use replay_sample::read::{are, point};
 use replay_sample::words::word;
 use std::io::Read;
@@ -9,13 +10,19 @@ fn cells(sample: &mut impl Read) -> usize {
     (word(sample) % 3) as usize
 }
 
-fn is_made(sample: &mut impl Read, made: Counts) -> bool {
+// Whether a mesh was made with the counts that come. They are read where it was refused, too: the next case stands behind them.
+fn is_made(sample: &mut impl Read, outcome: Result<Counts, Refusal>) -> bool {
     let nodes = word(sample);
     let tets = word(sample);
     let tris = word(sample);
-    (u64::from(made.nodes) == nodes)
-        & (u64::from(made.tets) == tets)
-        & (u64::from(made.tris) == tris)
+    match outcome {
+        Ok(made) => {
+            (u64::from(made.nodes) == nodes)
+                & (u64::from(made.tets) == tets)
+                & (u64::from(made.tris) == tris)
+        }
+        Err(_) => false,
+    }
 }
 
 pub fn block(sample: &mut impl Read) -> bool {
@@ -39,10 +46,7 @@ pub fn block(sample: &mut impl Read) -> bool {
             edges: &mut edges,
         },
     );
-    let Ok(made) = outcome else {
-        return false;
-    };
-    let counts = is_made(sample, made);
+    let counts = is_made(sample, outcome);
     let all_nodes = are(sample, &nodes);
     let all_tets = are(sample, &tets);
     let all_surfaces = are(sample, &surfaces);

@@ -65,6 +65,6 @@ pub fn solve(
             dv: &mut dv[..n],
         },
     );
-    last[..n].copy_from_slice(&density[..n]);
+    lists::copy(&density[..n], &mut last[..n]);
     entry
 }

@@ -6,10 +6,11 @@ mod fronts;
 ghost use Rattle.std.specs.Prelude.{◌≡◌, set, None};
 ghost use Rattle.run_plain.specs.Held.{core, working, SameFields, SameWork};
 ghost use Rattle.run_course.specs.Fit.{Fit};
-ghost use Rattle.run_answer.specs.Answers.{CoreAnswered};
+ghost use Rattle.run_answer.specs.Answers.{verdict_in, CoreAnswered};
 ghost use Rattle.run_answer.specs.Steps.{Asks, Enough, Begun, Followed};
 
 use run_plain::{Elements, Fields, Heard, Reply, Returned, State, Verdict, Work};
+use run_verdict::Lengths;
 use topo::{Iteration, Stop};
 
 // What an answer returns, with the record that it makes: its place in the history is the number of those that stood before.
@@ -27,6 +28,22 @@ fn unrecorded(state: State, reply: Reply) -> Step
         returned: Returned { state, reply },
         entry: None,
     }
+}
+
+// What the answer comes to, by the lengths of its lists.
+fn verdict(
+    room: usize,
+    state: State,
+    heard: Heard,
+    energies: &[f64],
+    elements: Elements,
+    fields: &Fields,
+    work: &Work,
+) -> Verdict
+    ensures { result ≡ verdict_in state (record { heard = heard; energies = energies.now }) room (core elements.entry fields.now) (working work.now) }
+{
+    let lengths = Lengths::of(elements, fields, room, work);
+    run_verdict::verdict(state, heard, energies, lengths)
 }
 
 // The solid part is solved: round 1 is asked for.
@@ -116,7 +133,7 @@ pub fn answer_core(
     ensures same_fields { SameFields fields.old fields.new }
     ensures same_work { SameWork work.old work.new }
 {
-    match run_verdict::verdict(state, heard, energies, elements, &*fields, room, &*work) {
+    match verdict(room, state, heard, energies, elements, &*fields, &*work) {
         Verdict::Kept(r) => unrecorded(state, Reply::Refused(r)),
         Verdict::Over(r) => unrecorded(state.ended(), Reply::Refused(r)),
         Verdict::Halts => unrecorded(state.ended(), Reply::Stop(Stop::Stopped)),

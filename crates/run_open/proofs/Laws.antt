@@ -29,7 +29,7 @@ use Rattle.run_plain.specs.declared.Returned.{Returned}
 use Rattle.run_open_checks.specs.Opens.{opening_in, Left, CoreOpened}
 use Rattle.run_open_checks.proofs.Opens.{kept_law, zeroed_law, shut_law, opens_law}
 use Rattle.run_open_checks.proofs.Outcome.{entry_kept, entry-zeroed, entry-last, passed, not_short, outcome-is}
-use Rattle.run_open_last.specs.Steps.{Lastly, ShutBy, begun, BegunBy}
+use Rattle.run_open_last.specs.Steps.{Lists, Lastly, ShutBy, begun, BegunBy}
 
 -- the lists of a build
 abbrev pub lent_of : List ℕ → List ℕ → List Float → Working → Lent
@@ -160,12 +160,15 @@ module _ (s : State) (g : Asked) (room : ℕ) (l : Core) (w : Working) where
           ∙ get_or-append (starts_of o) _ 0 (length g.centroids) (omega (arith, length-tabulate (start g.centroids g.goal.radius g.mirrors) (length g.centroids + 1)))
           ∙ get_or-tabulate (start g.centroids g.goal.radius g.mirrors) (length g.centroids + 1) (length g.centroids) 0 (omega arith)
 
-      -- the lists with the table
-      abbrev built : Core
-      built = record { volumes = l.volumes; passive = l.passive; starts = st; near = ne; coef = co; design = l.design; density = l.density; last = l.last }
+      -- the lists that the last step is lent, and the same with the table
+      abbrev lent : Lists
+      lent = record { volumes = l.volumes; passive = l.passive; design = l.design; density = l.density; last = l.last }
+
+      abbrev with_table : Lists → Core
+      with_table x = record { volumes = x.volumes; passive = x.passive; starts = st; near = ne; coef = co; design = x.design; density = x.density; last = x.last }
 
       -- the flag is set
-      shut : (r : Returned) (x : Core) (w₂ : Working) → g.flag ≡ true → ShutBy s built w₁ r x w₂ → CoreOpened s g room l w r x w₂
+      shut : (r : Returned) (x : Lists) (w₂ : Working) → g.flag ≡ true → ShutBy s lent w₁ r x w₂ → CoreOpened s g room l w r (with_table x) w₂
       shut r x w₂ t h =
           let k = worked in
           let f : Left (length l.volumes) w w₂ Shut =
@@ -181,24 +184,24 @@ module _ (s : State) (g : Asked) (room : ℕ) (l : Core) (w : Working) where
           } in
           let e : entry_of o ≡ Shut = entry-last o none (sym b-is ∙ zero-b) ∙ ap (lastly o) t in
           let m = shut_law s g room l w (ended_of s) st ne co w₂ turn e refl starts_is near-is coef-is f in
-          subst (λ (z : Core). CoreOpened s g room l w r z w₂) (sym h.lists) (subst (λ (z : Returned). CoreOpened s g room l w z built w₂) (sym h.returned) m)
+          subst (λ (z : Lists). CoreOpened s g room l w r (with_table z) w₂) (sym h.lists) (subst (λ (z : Returned). CoreOpened s g room l w z (with_table lent) w₂) (sym h.returned) m)
 
       -- it is not
-      begun_law : (r : Returned) (x : Core) (w₂ : Working) → g.flag ≡ false → BegunBy g.goal built w₁ r x w₂ → CoreOpened s g room l w r x w₂
+      begun_law : (entries : ℕ) → entries ≡ get_or st (length l.volumes) 0 → (r : Returned) (x : Lists) (w₂ : Working) → g.flag ≡ false → BegunBy g.goal entries lent w₁ r x w₂ → CoreOpened s g room l w r (with_table x) w₂
       unfolding overlay ones start_of
-      begun_law r x w₂ t h =
+      begun_law entries a r x w₂ t h =
           let e : entry_of o ≡ Opens = entry-last o none (sym b-is ∙ zero-b) ∙ ap (lastly o) t in
           let f : Left (length l.volumes) w w₂ Opens = subst (λ (v : Working). Left (length l.volumes) w v Opens) (sym h.work) (subst (λ (k : ℕ). Left k w w₁ Opens) long worked) in
           let d = ap (λ (k : ℕ). start_of o ++ drop k l.design) (sym (length-start o)) in
           let q = (λ i. sym (tabulate_throughout one64 (length l.volumes)) i ++ drop (length l.volumes) l.density) ∙ ap (λ (k : ℕ). ones (length l.volumes) ++ drop k l.density) (sym (length-tabulate (λ _. one64) (length l.volumes))) in
-          let n = entries-are (get_or st (length l.volumes) 0) refl in
-          let m = opens_law s g room l w (opened_state g.goal (length l.volumes) (get_or st (length l.volumes) 0)) st ne co (begun g.goal built).design (begun g.goal built).density w₂ turn e
+          let n = entries-are entries a in
+          let m = opens_law s g room l w (opened_state g.goal (length l.volumes) entries) st ne co (begun g.goal lent).design (begun g.goal lent).density w₂ turn e
           (ap (opened_state g.goal (length l.volumes)) n) starts_is near-is coef-is d q f in
-          subst (λ (z : Core). CoreOpened s g room l w r z w₂) (sym h.lists) (subst (λ (z : Returned). CoreOpened s g room l w z (begun g.goal built) w₂) (sym h.returned) m)
+          subst (λ (z : Lists). CoreOpened s g room l w r (with_table z) w₂) (sym h.lists) (subst (λ (z : Returned). CoreOpened s g room l w z (with_table (begun g.goal lent)) w₂) (sym h.returned) m)
 
-      pub last_law : (r : Returned) (x : Core) (w₂ : Working) → Lastly g.flag s g.goal built w₁ r x w₂ → CoreOpened s g room l w r x w₂
-      last_law r x w₂ h = go g.flag refl h
+      pub last_law : (entries : ℕ) → entries ≡ get_or st (length l.volumes) 0 → (r : Returned) (x : Lists) (w₂ : Working) → Lastly g.flag s g.goal entries lent w₁ r x w₂ → CoreOpened s g room l w r (with_table x) w₂
+      last_law entries a r x w₂ h = go g.flag refl h
         where
-          go : (t : Bool) → g.flag ≡ t → Lastly t s g.goal built w₁ r x w₂ → CoreOpened s g room l w r x w₂
+          go : (t : Bool) → g.flag ≡ t → Lastly t s g.goal entries lent w₁ r x w₂ → CoreOpened s g room l w r (with_table x) w₂
           go true t k = shut r x w₂ t k
-          go false t k = begun_law r x w₂ t k
+          go false t k = begun_law entries a r x w₂ t k

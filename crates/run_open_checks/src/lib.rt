@@ -12,10 +12,10 @@ ghost use Rattle.run_plain.specs.Lent.{open_short};
 ghost use Rattle.run_plain.specs.Formulas.{sum_of};
 ghost use Rattle.run_plain.specs.Opening.{fraction_bad, first_refusal};
 ghost use Rattle.run_plain.specs.Calls.{opened_state, sizes_in};
-ghost use Rattle.run_plain.specs.Held.{asked, opened};
-ghost use Rattle.run_open_checks.specs.Opens.{opening_in};
+ghost use Rattle.run_plain.specs.Held.{opened};
+ghost use Rattle.run_open_checks.specs.Asked.{sizes, opening};
 
-use filter::work::{TableMut, Work};
+use filter::work::{TableMut, Work, WorkLengths};
 use refusal::Refusal;
 use run_plain::{Compliances, Job, OpenFields, Phase, Progress, Setting, State};
 use topo::Goal;
@@ -26,30 +26,55 @@ fn fraction_bad(f: f64) -> bool
     !((f > 0.0) & (f < 1.0))
 }
 
-// Whether a list is lent too short, `room` the records that the history has room for.
+// How long each list of an opening is but the job's, `history` the records that there is room for.
+#[derive(Clone, Copy)]
+pub struct Lengths {
+    pub starts: usize,
+    pub near: usize,
+    pub coef: usize,
+    pub design: usize,
+    pub density: usize,
+    pub last: usize,
+    pub history: usize,
+    pub work: WorkLengths,
+}
+
+impl Lengths {
+    // Those of lists that are held, the history having room for so many records.
+    pub fn of(table: &TableMut, fields: &OpenFields, room: usize, work: &Work) -> Lengths
+        ensures { (job : Job) → sizes job result ≡ sizes_in (work_lengths (working work.now)) (opened job table.now fields.now) room }
+    {
+        Lengths {
+            starts: table.starts.len(),
+            near: table.near.len(),
+            coef: table.coef.len(),
+            design: fields.design.len(),
+            density: fields.density.len(),
+            last: fields.last.len(),
+            history: room,
+            work: WorkLengths::of(work),
+        }
+    }
+}
+
+// Whether a list is lent too short.
 #[tactic(auto, unfolding(run_plain::specs::Lent::open_short, run_plain::specs::Lent::run_short, lent::specs::Lent::short))]
-fn too_short(job: Job, table: &TableMut, fields: &OpenFields, room: usize, work: &Work) -> bool
-    ensures { result ≡ open_short (length job.entry.volumes.now) job.entry.goal.max_iterations (sizes_in (work_lengths (working work.now)) (opened job.entry table.now fields.now) room) }
+fn too_short(job: Job, k: Lengths) -> bool
+    ensures { result ≡ open_short (length job.entry.volumes.now) job.entry.goal.max_iterations (sizes job.entry k) }
 {
     let n = job.volumes.len();
-    (table.starts.len() <= n)
-        | (fields.design.len() < n)
-        | (fields.density.len() < n)
-        | (fields.last.len() < n)
-        | (room < job.goal.max_iterations)
-        | work.is_short(n)
+    (k.starts <= n)
+        | (k.design < n)
+        | (k.density < n)
+        | (k.last < n)
+        | (k.history < job.goal.max_iterations)
+        | k.work.is_short(n)
 }
 
 // The table's `near` and `coef` are looked at row by row, and the flag last.
 #[tactic(auto, unfolding(run_plain::specs::Opening::first_refusal, run_plain::specs::Formulas::sum_of, lists::specs::Lists::choose))]
-pub fn check(
-    job: Job,
-    table: &TableMut,
-    fields: &OpenFields,
-    room: usize,
-    work: &Work,
-) -> Result<(), Refusal>
-    ensures { refused result ≡ first_refusal (opening_in (asked job.entry) room (opened job.entry table.now fields.now) (working work.now)) }
+pub fn check(job: Job, lengths: Lengths) -> Result<(), Refusal>
+    ensures { refused result ≡ first_refusal (opening job.entry lengths) }
 {
     let n = job.volumes.len();
     if (job.centroids.len() != n) | (job.passive.len() != n) {
@@ -82,7 +107,7 @@ pub fn check(
         return Err(Refusal::PointOutside);
     }
     filter_group::check(job.mirrors)?;
-    if too_short(job, table, fields, room, work) {
+    if too_short(job, lengths) {
         return Err(Refusal::ListTooShort);
     }
     Ok(())

@@ -179,7 +179,7 @@ pub fn solve(
         spare,
     );
     let change = oc_record::change(&slope[..], &design[..]);
-    design.copy_from_slice(&slope[..]);
+    lists::copy(slope, design);
     Iteration {
         number,
         compliance: oc_record::compliance(energies),

@@ -8,6 +8,7 @@ ghost use Rattle.run_plain.specs.Formulas.{not_finite, idle as idle_of};
 ghost use Rattle.run_plain.specs.Plain.{judged, Part};
 ghost use Rattle.run_plain.specs.Calls.{in_range, sound, part_of, checks_at, sizes_in};
 ghost use Rattle.run_plain.specs.Held.{core, working, lengths_of};
+ghost use Rattle.run_verdict.specs.Sizes.{sizes};
 
 use refusal::Refusal;
 use run_plain::{Checks, Elements, Fields, Heard, Phase, Said, Setting, State, Verdict, Work};
@@ -53,33 +54,70 @@ fn sound(state: State) -> bool
     }
 }
 
-// Whether a list is lent too short, `room` the records that the history has room for.
+// How long each list of an answer is but the energies', `history` the records that there is room for.
+#[derive(Clone, Copy)]
+pub struct Lengths {
+    pub volumes: usize,
+    pub passive: usize,
+    pub starts: usize,
+    pub near: usize,
+    pub coef: usize,
+    pub design: usize,
+    pub density: usize,
+    pub last: usize,
+    pub history: usize,
+    pub free: usize,
+    pub slope: usize,
+    pub spare: usize,
+    pub dc: usize,
+    pub dv: usize,
+}
+
+impl Lengths {
+    // Those of lists that are held, the history having room for so many records.
+    pub fn of(elements: Elements, fields: &Fields, room: usize, work: &Work) -> Lengths
+        ensures { sizes result ≡ sizes_in (lengths_of (working work.now)) (core elements.entry fields.now) room }
+    {
+        Lengths {
+            volumes: elements.volumes.len(),
+            passive: elements.passive.len(),
+            starts: elements.table.starts.len(),
+            near: elements.table.near.len(),
+            coef: elements.table.coef.len(),
+            design: fields.design.len(),
+            density: fields.density.len(),
+            last: fields.last.len(),
+            history: room,
+            free: work.free.len(),
+            slope: work.slope.len(),
+            spare: work.spare.len(),
+            dc: work.dc.len(),
+            dv: work.dv.len(),
+        }
+    }
+}
+
+// Whether a list is lent too short.
 #[tactic(auto, unfolding(run_plain::specs::Lent::answer_short, run_plain::specs::Lent::run_short, lent::specs::Lent::short))]
-fn too_short(
-    setting: Setting,
-    elements: Elements,
-    fields: &Fields,
-    room: usize,
-    work: &Work,
-) -> bool
-    ensures { result ≡ answer_short setting.elements setting.entries setting.max_iterations (sizes_in (lengths_of (working work.now)) (core elements.entry fields.now) room) }
+fn too_short(setting: Setting, k: Lengths) -> bool
+    ensures { result ≡ answer_short setting.elements setting.entries setting.max_iterations (sizes k) }
 {
     let n = setting.elements;
     let entries = setting.entries;
-    (elements.table.starts.len() <= n)
-        | (fields.design.len() < n)
-        | (fields.density.len() < n)
-        | (fields.last.len() < n)
-        | (room < setting.max_iterations)
-        | (elements.volumes.len() < n)
-        | (elements.passive.len() < n)
-        | (elements.table.near.len() < entries)
-        | (elements.table.coef.len() < entries)
-        | (work.free.len() < n)
-        | (work.slope.len() < n)
-        | (work.spare.len() < n)
-        | (work.dc.len() < n)
-        | (work.dv.len() < n)
+    (k.starts <= n)
+        | (k.design < n)
+        | (k.density < n)
+        | (k.last < n)
+        | (k.history < setting.max_iterations)
+        | (k.volumes < n)
+        | (k.passive < n)
+        | (k.near < entries)
+        | (k.coef < entries)
+        | (k.free < n)
+        | (k.slope < n)
+        | (k.spare < n)
+        | (k.dc < n)
+        | (k.dv < n)
 }
 
 // What an answer to the solid part, or to a round, comes to.
@@ -105,19 +143,11 @@ fn judged(solid: bool, c: Checks) -> Verdict
 
 // What an answer is looked at for.
 #[tactic(auto, unfolding(run_plain::specs::Calls::checks_at))]
-fn checks(
-    state: State,
-    heard: Heard,
-    energies: &[f64],
-    elements: Elements,
-    fields: &Fields,
-    room: usize,
-    work: &Work,
-) -> Checks
-    ensures { result ≡ checks_at state (record { heard = heard; energies = energies.now }) (sizes_in (lengths_of (working work.now)) (core elements.entry fields.now) room) }
+fn checks(state: State, heard: Heard, energies: &[f64], lengths: Lengths) -> Checks
+    ensures { result ≡ checks_at state (record { heard = heard; energies = energies.now }) (sizes lengths) }
 {
     Checks {
-        short: too_short(state.setting, elements, fields, room, work),
+        short: too_short(state.setting, lengths),
         said: heard.said,
         stands: 0 < state.progress.rounds,
         count: energies.len() != state.setting.elements,
@@ -129,30 +159,15 @@ fn checks(
 
 // What an answer comes to; of every list but the energies only the length is looked at.
 #[tactic(auto, unfolding(run_plain::specs::Plain::judged, run_plain::specs::Calls::part_of, lists::specs::Lists::choose))]
-pub fn verdict(
-    state: State,
-    heard: Heard,
-    energies: &[f64],
-    elements: Elements,
-    fields: &Fields,
-    room: usize,
-    work: &Work,
-) -> Verdict
-    ensures { result ≡ judged (part_of state) (checks_at state (record { heard = heard; energies = energies.now })
-        (sizes_in (lengths_of (working work.now)) (core elements.entry fields.now) room)) }
+pub fn verdict(state: State, heard: Heard, energies: &[f64], lengths: Lengths) -> Verdict
+    ensures { result ≡ judged (part_of state) (checks_at state (record { heard = heard; energies = energies.now }) (sizes lengths)) }
 {
     if !sound(state) {
         return Verdict::Kept(Refusal::OutOfTurn);
     }
     match state.phase {
         Phase::Idle => Verdict::Kept(Refusal::OutOfTurn),
-        Phase::Solid => judged(
-            true,
-            checks(state, heard, energies, elements, fields, room, work),
-        ),
-        Phase::Round => judged(
-            false,
-            checks(state, heard, energies, elements, fields, room, work),
-        ),
+        Phase::Solid => judged(true, checks(state, heard, energies, lengths)),
+        Phase::Round => judged(false, checks(state, heard, energies, lengths)),
     }
 }

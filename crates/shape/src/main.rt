@@ -14,13 +14,13 @@ use std::io::Read;
 use strip::Job;
 use strip_lists::Lists;
 use strip_read::Lists as Patterns;
-use strip_stream::Reader;
+use strip_stream::Stream;
 use topo::{Goal, Iteration};
 
-// What was read of a strip: its reader, and how many of its bytes are kept.
+// What was read of a strip, and how many of its bytes are kept.
 #[derive(Clone, Copy)]
 struct Input {
-    reader: Result<Reader, Refusal>,
+    stream: Stream,
     at: usize,
 }
 
@@ -34,12 +34,12 @@ fn keep(kept: &mut [u8], at: usize, part: &[u8]) -> usize
     at + n
 }
 
-// Reads to the end in parts: each is fed to the reader, and the first bytes are kept. A read that fails counts as the end. A strip has less than 2^35
+// Reads to the end in parts: each is fed to the stream, and the first bytes are kept. A read that fails counts as the end. A strip has less than 2^35
 // bytes and a part one at least, so a strip that 2^64 - 1 parts do not end is malformed by then.
 fn read_all(from: &mut impl Read, kept: &mut [u8]) -> Input
     ensures { result.at ≤ length kept.old }
 {
-    let mut reader = Ok(Reader::begin());
+    let mut stream = strip_stream::begin();
     let mut at = 0;
     let mut part = [0; 65536];
     for _ in 0..u64::MAX {
@@ -47,13 +47,10 @@ fn read_all(from: &mut impl Read, kept: &mut [u8]) -> Input
         if got == 0 {
             break;
         }
-        reader = match reader {
-            Ok(reader) => reader.feed(&part[..got]),
-            Err(why) => Err(why),
-        };
+        stream = strip_stream::feed(stream, &part[..got]);
         at = keep(kept, at, &part[..got]);
     }
-    Input { reader, at }
+    Input { stream, at }
 }
 
 // Loads the job of a strip that is whole and not malformed.
@@ -164,7 +161,7 @@ fn report(job: Job, kept: &[u8], out: &mut [u8]) -> usize
     };
     // A strip that passed so far has at most 16,644 bytes (`reach`), and is kept whole. Were it not, nothing is run.
     if load(kept, &mut passive, lists).is_err() {
-        return shape_report::refused(out, Refusal::ListTooShort);
+        return shape_report::refused_for(out, Refusal::ListTooShort);
     }
     // a job that is admitted has no more than these
     let n = job.elements.min(256);
@@ -186,13 +183,10 @@ fn main(rt: HostRuntime) -> io::Result<()> {
     // what a report of 64 rounds and 256 elements takes
     let mut out = [0; 14000];
     let input = read_all(&mut rt.stdin(), &mut kept);
-    let answer = match input.reader {
-        Ok(reader) => reader.finish(),
-        Err(why) => Err(why),
-    };
+    let answer = strip_stream::finish(input.stream);
     let end = match strip_job::admitted(answer) {
         Ok(job) => report(job, &kept[..input.at], &mut out),
-        Err(why) => shape_report::refused(&mut out, why),
+        Err(why) => shape_report::refused_for(&mut out, why),
     };
     rt.write_all(&out[..end])
 }

@@ -11,13 +11,20 @@ ghost use Rattle.shape_report.specs.Steps.{Wrote};
 use refusal::Refusal;
 use topo::{Iteration, Stop};
 
-// A refusal, by its number.
-pub fn refused(out: &mut [u8], refusal: Refusal) -> usize
-    ensures { Wrote (text_of (refused_text (number_of refusal))) 0 out.old out.new result }
+// A refusal by its number, whatever that is.
+pub fn refused(out: &mut [u8], number: u32) -> usize
+    ensures { Wrote (text_of (refused_text number)) 0 out.old out.new result }
 {
     let a = parts::words(out, 0, b"refused ");
-    let b = parts::decimal(out, a, u64::from(u32::from(refusal)));
+    let b = parts::decimal(out, a, u64::from(number));
     parts::words(out, b, b"\n")
+}
+
+// A refusal.
+pub fn refused_for(out: &mut [u8], why: Refusal) -> usize
+    ensures { Wrote (text_of (refused_text (number_of why))) 0 out.old out.new result }
+{
+    refused(out, u32::from(why))
 }
 
 // A run that stopped: the solid part's work, its records, the stop, and the densities of the last record's round.

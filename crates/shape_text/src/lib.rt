@@ -30,8 +30,8 @@ fn outcome(returned: Returned, fields: &Fields, history: &[Iteration], out: &mut
     let state = returned.state;
     let last = &*fields.last;
     match returned.reply {
-        Reply::Refused(why) => shape_report::refused(out, why),
-        Reply::Solid | Reply::Round(_) => shape_report::refused(out, Refusal::OutOfTurn),
+        Reply::Refused(why) => shape_report::refused_for(out, why),
+        Reply::Solid | Reply::Round(_) => shape_report::refused_for(out, Refusal::OutOfTurn),
         Reply::Stop(why) => shape_report::ran(
             out,
             state.compliances.solid,

@@ -33,12 +33,31 @@ pub fn unfit(jobs: &[[u32; 2]]) -> bool
     jobs.is_empty() || 16 < jobs.len() || any_unfit(jobs)
 }
 
-// 30 of a grant.
+// Whether one of some names is no job's.
+// Stays a loop that reads all: `any` stops at the first, and so the compiler would take the names one by one.
 #[tactic(auto, unfolding(crate::specs::Grants::unknown_job))]
+fn any_unknown(jobs: u32, names: &[u32]) -> bool
+    ensures { result ≡ unknown_job jobs names.now }
+{
+    let mut bad = false;
+    for job in names {
+        bad |= jobs <= *job;
+    }
+    bad
+}
+
+// 30 of a grant. A long list is read by parts, up to the first with such a name.
 pub fn unknown(jobs: u32, named: &[u32]) -> bool
     ensures { result ≡ unknown_job jobs named.now }
 {
-    named.iter().any(|job| jobs <= *job)
+    let mut rest = named;
+    while 64 < rest.len() {
+        if any_unknown(jobs, &rest[..64]) {
+            return true;
+        }
+        rest = &rest[64..];
+    }
+    any_unknown(jobs, rest)
 }
 
 impl Job {

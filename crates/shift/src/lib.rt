@@ -72,6 +72,7 @@ impl ShiftGrant {
     pub fn new(outcome: Result<u32, Refusal>, shift: Shift) -> ShiftGrant
         ensures { result ≡ granted_by outcome shift }
     {
+        let shift = shift.copied();
         match outcome {
             Ok(job) => ShiftGrant {
                 refused: 0,
@@ -88,6 +89,18 @@ impl ShiftGrant {
 }
 
 impl Shift {
+    // The same shift, field by field: for a copy of the whole an archive for C would take `memcpy` from outside.
+    pub fn copied(&self) -> Shift
+        ensures { result ≡ self.now }
+    {
+        Shift {
+            jobs: self.jobs,
+            share: self.share,
+            limit: self.limit,
+            granted: self.granted,
+        }
+    }
+
     // A shift of jobs with these shares and limits.
     #[tactic(auto, using(crate::proofs::Tests::few_jobs, lists::proofs::Filled::stored), unfolding(crate::specs::Grants::begin_of, crate::specs::Grants::no_shift, crate::specs::Grants::share_of, crate::specs::Grants::limit_of, lists::specs::Lists::choose, lists::specs::Lists::overwrite))]
     pub fn begin(jobs: &[[u32; 2]]) -> Result<Shift, Refusal>

@@ -3,7 +3,6 @@ use Rattle.std.specs.Prelude.{Result, Ok, Err, ◌≡◌, ◌⊎◌, ◌<◌, �
 use Rattle.lists.specs.Lists.{choose, any_to, overwrite}
 use Rattle.refusal.specs.declared.Refusal.{Refusal}
 use Rattle.refusal.specs.declared.Refusal.TheVariants.{StripMalformed, ListTooShort}
-use Rattle.topo.specs.Stages.{sharpening_of}
 use Rattle.strip.specs.declared.words.Kind.{Kind}
 use Rattle.strip.specs.declared.words.Kind.TheVariants.{Start as AStart, Top as ATop, Next as ANext, Last as ALast, Flag as AFlag, Count as ACount, End as AnEnd}
 use Rattle.strip.specs.declared.words.Place.{Place}
@@ -115,7 +114,7 @@ job_of word =
       elements = payload_of (word 0);
       fraction = number_of (word 1) (word 2) (word 3);
       radius = number_of (word 4) (word 5) (word 6);
-      sharpen = sharpening_of (payload_of (word 7));
+      sharpen = payload_of (word 7);
       max_iterations = payload_of (word 8);
       mirrors = payload_of (word 9);
     }

@@ -38,6 +38,11 @@ good_word r w =
 abbrev pub may_follow : Reader → ℕ → Bool
 may_follow r w = stands (place_at (payload_of (head_word r 0)) (payload_of (head_word r 9)) r.words) r.words w
 
+-- what a step leaves of its reader, and what it answers
+abbrev pub left : Result (Unit {0}) Refusal → Reader → Result Reader Refusal
+left (Ok done) r = Ok r
+left (Err why) r = Err why
+
 unfoldable pub taken : Reader → ℕ → Result Reader Refusal
 taken r w = choose (may_follow r w) (Ok (good_word r w)) (Err StripMalformed)
 

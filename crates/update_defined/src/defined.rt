@@ -86,7 +86,7 @@ impl<'a> Defined<'a> {
                     passes,
                 };
             }
-            design.copy_from_slice(work);
+            lists::copy(work, design);
             kept = self.kept(design, work);
             bracket = Bracket {
                 low: bracket.high,

@@ -9,7 +9,7 @@ use Rattle.filter_entries.proofs.Writes.{written_none, written-more, cleared-non
 use Rattle.filter_entries.proofs.put_row.Goals as goal
 
 pub loop-k-init : goal.loop-k-init
-loop-k-init c = record { kept = kept_same _; same = same_table _; found = refl; stamps = refl; starts = refl; weights = cleared-none _ _; nears = written_none _ _ _; coefs = written_none _ _ _ }
+loop-k-init c = record { kept = kept_same _; same = same_table _; found = refl; stamps = refl; map = refl; count = refl; starts = refl; weights = cleared-none _ _; nears = written_none _ _ _; coefs = written_none _ _ _ }
 
 pub loop-k-preserved : goal.loop-k-preserved
 loop-k-preserved c = let a = c.args in
@@ -29,6 +29,8 @@ loop-k-preserved c = let a = c.args in
       same = table_on _ l.table _ v.same (record { starts = refl; near = refl; coef = refl; starts-long = refl; near-long = length-set l.table.near.now _ _; coef-long = length-set l.table.coef.now _ _ });
       found = v.found;
       stamps = v.stamps;
+      map = v.map;
+      count = v.count;
       starts = v.starts;
       weights = rw v.found (cleared_more found l.k m.weight.now l.met.weight.now v.weights);
       nears = rw v.found (written-more a.at (λ j. get_or found j 0) l.k t.near.now l.table.near.now v.nears);

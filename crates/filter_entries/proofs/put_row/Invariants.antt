@@ -12,6 +12,8 @@ invariant-loop-k l = record {
   same : SameTable l.initial.table l.table;
   found : l.met.found.now ≡ l.initial.met.found.now;
   stamps : l.met.stamp.now ≡ l.initial.met.stamp.now;
+  map : l.met.bits.now ≡ l.initial.met.bits.now;
+  count : l.met.count ≡ l.initial.met.count;
   starts : l.table.starts.now ≡ l.initial.table.starts.now;
   weights : l.met.weight.now ≡ cleared l.initial.met.found.now l.k l.initial.met.weight.now;
   nears : l.table.near.now ≡ written l.at (λ j. get_or l.initial.met.found.now j 0) l.k l.initial.table.near.now;

@@ -26,4 +26,4 @@ lastly-requires c =
     (density-fits c.args.state _ _ _ _ turn none _ _ _ _ _ made refl, design-fits c.args.state _ _ _ _ turn none _ _ _ _ _ made refl)
 
 pub returns-clause-opened : goal.returns-clause-opened
-returns-clause-opened c = last_law _ _ _ _ _ (sym c.in_turn.ensures ∙ c.if-not-in_turn.false) (sym c.in_ok-check.ensures) _ _ _ _ _ c.in_ok-build.ensures.built refl _ _ _ c.lastly.ensures.last
+returns-clause-opened c = last_law _ _ _ _ _ (sym c.in_turn.ensures ∙ c.if-not-in_turn.false) (sym c.in_ok-check.ensures) _ _ _ _ _ c.in_ok-build.ensures.built refl _ c.entries-entries.ensures _ _ _ c.lastly.ensures.last

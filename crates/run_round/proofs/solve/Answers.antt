@@ -11,7 +11,7 @@ returns c =
     c.sum-total.ensures c.solid_volume-solid.ensures c.sharpness-beta.ensures c.free_volumes.ensures
     c.sum.ensures c.grey-grey.ensures (slopes-are _ _ _ _ _ _ _ _ _ _ _ _ _ c.slopes.ensures c.work_slope.ensures c.volume_slopes.ensures)
     c.move_at.ensures c.target.ensures c.tolerance.ensures c.rule_at.ensures
-    c.update-u.ensures c.change-change.ensures c.copy_from_slice.ensures.after c.compliance.ensures c.fraction.ensures in
+    c.update-u.ensures c.change-change.ensures c.copy.ensures c.compliance.ensures c.fraction.ensures in
     record {
       entry = cc (solved.0, c.sharpens-sharpen.ensures);
       updated = cc (solved.1, c.sharpens-sharpen.ensures);

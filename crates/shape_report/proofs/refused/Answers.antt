@@ -6,4 +6,4 @@ use mathlib.Core.Path.{ap, ◌∙◌}
 
 pub returns : goal.returns
 unfolding ascii text_of
-returns c = retext (ap (λ n. text_of (refused n)) (c.from-2.ensures ∙ c.from.ensures)) (then c.words-a.ensures (then c.decimal-b.ensures c.words.ensures))
+returns c = retext (ap (λ n. text_of (refused n)) c.from.ensures) (then c.words-a.ensures (then c.decimal-b.ensures c.words.ensures))

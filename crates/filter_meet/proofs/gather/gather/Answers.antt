@@ -12,6 +12,7 @@ loop-k-preserved c = let a = c.args in
     let l = c.loop-k in
     let is : c.image_of-q.result ≡ seen g.centroids.now g.radius a.planes.lent.now a.e l.k = c.image_of-q.ensures ∙ (λ i. image_in (a.planes.made i) l.k (c.from-middle.ensures i)) in record {
       kept = kept_on _ _ _ l.invariant.kept c.around.ensures.kept;
+      found = c.around.ensures.found ∙ l.invariant.found;
       lists = lists_kept _ _ _ l.invariant.lists c.around.ensures.kept c.around.ensures.took.counted;
       gathered = gather_more g.centroids.now g.radius a.planes.lent.now a.e l.k c.image_of-q.result l.met c.around.new.met is (rw g.ready.many at l.invariant.lists) c.around.ensures.kept l.invariant.gathered c.around.ensures.took;
     }

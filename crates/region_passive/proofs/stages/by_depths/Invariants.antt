@@ -9,5 +9,5 @@ use mathlib.Core.Path.{◌≡◌}
 abbrev pub invariant-loop-s : goal.invariant-loop-s
 invariant-loop-s l = record {
   long : Long (length l.centroids) l.filing;
-  marked : l.marks ≡ deepened_to (record { nodes = l.nodes; tets = []; tris = l.b.tris.now; surfaces = l.b.surfaces.now; held = []; loaded = []; starts = l.b.starts.now; kept = l.b.kept.now; depths = l.b.depths.now }) l.centroids l.s l.initial.marks;
+  marked : l.marks ≡ deepened_to (record { nodes = l.nodes; tets = []; tris = l.b.tris.now; surfaces = l.b.surfaces.now; held = []; loaded = []; starts = l.b.starts.now; kept = l.b.kept.now; depths = l.depths }) l.centroids l.s l.initial.marks;
 }

@@ -24,7 +24,7 @@ returns c =
     let u = a.energies.now in
     let p = c.requires.enough in
     let new = laid n c.solve-entry.new.design _ a.fields.design.now (c.solve-entry.ensures.updated ∙ (λ i. (update_at (case i) steep x q u).design)) c.solve-entry.auto.design p.asks.design in
-    let last = laid n c.copy_from_slice.new.self q a.fields.last.now c.copy_from_slice.ensures.after c.copy_from_slice.auto.self p.last in
+    let last = laid n c.copy.new.to q a.fields.last.now c.copy.ensures c.copy.auto.to p.last in
     record {
       entry = c.solve-entry.ensures.entry ∙ (λ i. record_at (case i) steep x q u (add-one a.state.progress.rounds i));
       lists = λ i. record {

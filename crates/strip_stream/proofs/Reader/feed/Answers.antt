@@ -4,16 +4,16 @@ use Rattle.strip_stream.specs.Stream.{fed}
 use Rattle.strip_stream.proofs.Parts.{fed_next, fed_all, fed_refused}
 use Rattle.strip_stream.proofs.Reader.feed.Goals as goal
 
-pub returns-in_err-reader : goal.returns-in_err-reader
-returns-in_err-reader c =
+pub returns-in_err-step : goal.returns-in_err-step
+returns-in_err-step c =
     let i = c.loop-b.b-index in
-    let e : c.from_residual.result ≡ Err c.in_err-reader.field-0.0 = search rules in
-    e ∙ sym (fed_refused _ (drop (i + 1) c.args.bytes.now)) ∙ ap (λ x. fed x (drop (i + 1) c.args.bytes.now)) c.in_err-reader.ensures ∙ fed_next (Ok c.loop-b.reader) c.args.bytes.now i (omega arith) ∙ c.loop-b.invariant
+    let e : c.from_residual.result ≡ Err c.in_err-step.field-0.0 = search rules in
+    e ∙ sym (fed_refused _ (drop (i + 1) c.args.bytes.now)) ∙ ap (λ x. fed x (drop (i + 1) c.args.bytes.now)) c.in_err-step.ensures ∙ fed_next (Ok c.loop-b.reader) c.args.bytes.now i (omega arith) ∙ c.loop-b.invariant
 
 pub loop-b-preserved : goal.loop-b-preserved
 loop-b-preserved c =
     let i = c.loop-b.b-index in
-    ap (λ x. fed x (drop (i + 1) c.args.bytes.now)) c.in_ok-reader.ensures ∙ fed_next (Ok c.loop-b.reader) c.args.bytes.now i (omega arith) ∙ c.loop-b.invariant
+    ap (λ x. fed x (drop (i + 1) c.args.bytes.now)) c.in_ok-step.ensures ∙ fed_next (Ok c.loop-b.reader) c.args.bytes.now i (omega arith) ∙ c.loop-b.invariant
 
 pub returns : goal.returns
 returns c =

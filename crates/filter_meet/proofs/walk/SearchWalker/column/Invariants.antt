@@ -10,6 +10,7 @@ invariant-loop-k l = record {
   q : l.self.q ≡ l.initial.self.q;
   met : l.self.met.ghost_name ≡ l.initial.self.met.ghost_name;
   kept : Kept l.initial.self.met.now l.self.met.now;
+  found : l.self.met.now.found.now ≡ l.initial.self.met.now.found.now;
   lists : Lists (length l.initial.self.g.now.cell.now) l.self.met.now;
   strode : Strode l.initial.self.g.now l.initial.self.q l.c l.initial.self.met.now l.initial.k l.k l.self.met.now;
 }

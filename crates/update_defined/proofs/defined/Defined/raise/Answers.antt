@@ -23,7 +23,7 @@ pub loop-passes-preserved : goal.loop-passes-preserved
 unfolding trial
 loop-passes-preserved c =
     let l = c.loop-passes in
-    let e = c.copy_from_slice.ensures.after in
+    let e = c.copy.ensures in
     record {
       kept = c.kept-kept.ensures;
       goes_on =
