@@ -40,15 +40,17 @@ impl Shift {
     {
         let marks = marked(named);
         let mut best: Option<usize> = None;
+        // the numbers of the best so far: read by its place in each turn, they keep the next turn waiting
+        let mut held = self.job(0);
         for (j, marked) in marks.iter().enumerate() {
             let job = self.job(j);
             let first = match best {
-                Some(b) => job.is_sooner(self.job(b)),
+                Some(_) => job.is_sooner(held),
                 None => true,
             };
-            if *marked && job.granted < job.limit && first {
-                best = Some(j);
-            }
+            let sooner = *marked & (job.granted < job.limit) & first;
+            best = lists::either(sooner, Some(j), best);
+            held = lists::either(sooner, job, held);
         }
         best
     }
