@@ -1,5 +1,5 @@
 // A boundary with kept sets of its surfaces.
-ghost use Rattle.std.specs.Prelude.{◌+◌, ◌≤◌, ◌<◌, length};
+ghost use Rattle.std.specs.Prelude.{◌≡◌, ◌+◌, ◌≤◌, ◌<◌, length};
 
 // Triangles, each with its surface, and the sets: set s has the surfaces kept[starts[s]] .. kept[starts[s + 1] - 1].
 #[derive(Clone, Copy)]
@@ -19,4 +19,19 @@ pub struct KeptSet<'a> {
     pub boundary: Boundary<'a>,
     pub number: usize,
     ghost there: { number + 1 < length boundary.starts.now },
+}
+
+impl<'a> Boundary<'a> {
+    // One of its sets.
+    pub fn kept_set(self, number: usize) -> KeptSet<'a>
+        requires { number < self.sets }
+        ensures of { result.boundary ≡ self.entry }
+        ensures numbered { result.number ≡ number }
+        ensures there { result.number < result.boundary.sets }
+    {
+        KeptSet {
+            boundary: self,
+            number,
+        }
+    }
 }

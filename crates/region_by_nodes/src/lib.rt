@@ -59,11 +59,7 @@ fn flag_sets(b: Boundary, keep: &mut [bool])
     ensures { keep.new ≡ flagged_sets b.entry.tris.now b.entry.surfaces.now b.entry.starts.now b.entry.kept.now b.entry.sets keep.old }
 {
     for s in 0..b.sets {
-        let set = KeptSet {
-            boundary: b,
-            number: s,
-        };
-        flag_set(set, keep);
+        flag_set(b.kept_set(s), keep);
     }
 }
 

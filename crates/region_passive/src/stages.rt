@@ -9,7 +9,7 @@ ghost use Rattle.region_passive.specs.Held.{problem, lent, left};
 ghost use Rattle.region_passive.specs.Steps.{Fitting, Roomy, Past, deepened_to};
 
 use region_by_depth::middles::Filing;
-use region_by_nodes::boundary::{Boundary, KeptSet};
+use region_by_nodes::boundary::Boundary;
 use region_passive_checks::{Part, Work};
 
 #[tactic(auto, using(lists::proofs::Filled::stored, lists::proofs::Filled::filled), unfolding(lists::specs::Lists::overwrite))]
@@ -37,11 +37,14 @@ fn by_depths(
 {
     for (s, depth) in depths.iter().enumerate() {
         if lent::is_depth(*depth) {
-            let set = KeptSet {
-                boundary: b,
-                number: s,
-            };
-            region_by_depth::reach::by_depth(nodes, set, *depth, centroids, filing, marks);
+            region_by_depth::reach::by_depth(
+                nodes,
+                b.kept_set(s),
+                *depth,
+                centroids,
+                filing,
+                marks,
+            );
         }
     }
 }
