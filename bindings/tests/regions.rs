@@ -47,6 +47,31 @@ fn what_stays_solid() {
     assert_eq!(marks, [false, false, false, false, false, false, true]);
 }
 
+/// Two cells side by side, and two sets: each keeps to its own surfaces and its own depth.
+#[test]
+fn each_set_by_itself() {
+    let (mut nodes, mut tets, mut surfaces, mut tris) = ([[0.0; 3]; 45], [[0; 10]; 12], [0; 20], [[0; 6]; 20]);
+    let lent = Lent { nodes: &mut nodes, tets: &mut tets, surfaces: &mut surfaces, tris: &mut tris, edges: &mut [0; 96] };
+    assert!(mesh::block([2, 1, 1], Vec3 { x: 4.0, y: 2.0, z: 2.0 }, lent).is_ok());
+    let mesh = Mesh { nodes: &nodes, tets: &tets, tris: &tris, surfaces: &surfaces };
+    let mut work = PassiveWork::of(12, 45);
+    let mut marked = |starts: &[u32], surfaces: &[u32], depths: &[f64]| {
+        let mut marks = [true; 12];
+        assert_eq!(region::passive(mesh, &[], &[], Kept { starts, surfaces, depths }, &mut marks, &mut work), Ok(()));
+        marks
+    };
+    let with_a_node_at = |x: f64| tets.map(|tet| tet.iter().any(|&n| nodes[n as usize][0] == x));
+    let (low, high) = (with_a_node_at(0.0), with_a_node_at(4.0));
+    assert_eq!((low.iter().filter(|is| **is).count(), high.map(|is| !is)), (6, low));
+    let none = f64::NAN;
+    assert_eq!(marked(&[0, 0, 1], &[2], &[none, none]), high);
+    assert_eq!(marked(&[0, 1, 1], &[1], &[none, none]), low);
+    assert_eq!(marked(&[0, 1, 2], &[1, 2], &[none, none]), [true; 12]);
+    // The depth of an empty set reaches nothing, that of the other everything.
+    assert_eq!(marked(&[0, 0, 1], &[2], &[10.0, none]), high);
+    assert_eq!(marked(&[0, 0, 1], &[2], &[none, 10.0]), [true; 12]);
+}
+
 #[test]
 fn the_same_on_both_sides() {
     let (nodes, _, _, tris) = one_cell();
