@@ -22,7 +22,7 @@ pub struct KeptSet<'a> {
 }
 
 impl<'a> Boundary<'a> {
-    // One of its sets.
+    // One of its sets. A `KeptSet` made by hand need not be: it asks only that `starts` has its end.
     pub fn kept_set(self, number: usize) -> KeptSet<'a>
         requires { number < self.sets }
         ensures of { result.boundary ≡ self.entry }
